@@ -1,0 +1,58 @@
+-- The sizes of the parts of splits, and of lists of entries.
+use Rattle.std.proofs.Common.{◌≡◌, ℕ, zero, suc, ◌+◌, ◌<◌, List, [], ◌∷◌, ◌++◌, map, length, refl, ap, ◌∙◌, arith}
+use Rattle.std.specs.List.{AllByRecursion, cons_option}
+use Rattle.std.specs.Prelude.{slice_get}
+use Rattle.coordinate_model.specs.Sequences.{range_from, range, splits, at_places}
+
+pub all_map : {A B : Type 0} (P : A → Type 0) (Q : B → Type 0) (f : A → B) → ((a : A) → P a → Q (f a)) → (xs : List A)
+    → AllByRecursion P xs
+    → AllByRecursion Q (map f xs)
+all_map P Q f g [] h = tt
+all_map P Q f g (x ∷ xs) h = (g x h.0, all_map P Q f g xs h.1)
+
+pub all_append : {A : Type 0} (P : A → Type 0) (xs ys : List A) → AllByRecursion P xs → AllByRecursion P ys
+    → AllByRecursion P (xs ++ ys)
+all_append P [] ys h k = k
+all_append P (x ∷ xs) ys h k = (h.0, all_append P xs ys h.1 k)
+
+-- t parts n entries, each with P, into k and the rest
+pub record IsSplit {A : Type 0} (P : A → Type 0) (k n : ℕ) (t : List A × List A) : Type 0 where
+  pub chosen : length t.0 ≡ k
+  pub all : length t.1 + k ≡ n
+  pub first : AllByRecursion P t.0
+  pub second : AllByRecursion P t.1
+
+pub splits-are : {A : Type 0} (P : A → Type 0) (k : ℕ) (xs : List A) → AllByRecursion P xs
+    → AllByRecursion (IsSplit P k (length xs)) (splits k xs)
+splits-are P zero xs h = (record { chosen = refl; all = omega arith; first = tt; second = h }, tt)
+splits-are P (suc k) [] h = tt
+splits-are P (suc k) (x ∷ xs) h =
+    all_append _ _ _
+    (all_map _ _ (λ s. (x ∷ s.0, s.1)) (λ s i. record
+    { chosen = ap suc i.chosen; all = (let e = i.all in omega arith); first = (h.0, i.first); second = i.second })
+    (splits k xs) (splits-are P k xs h.1))
+    (all_map _ _ (λ s. (s.0, x ∷ s.1)) (λ s i. record
+    { chosen = i.chosen; all = (let e = i.all in omega arith); first = i.first; second = (h.0, i.second) })
+    (splits (suc k) xs) (splits-are P (suc k) xs h.1))
+
+range_from-below : (m k n : ℕ) → m + k ≡ n → AllByRecursion (λ i. i < n) (range_from m k)
+range_from-below m zero n e = tt
+range_from-below m (suc k) n e = (omega arith, range_from-below (suc m) k n (omega arith))
+
+pub range-below : (n : ℕ) → AllByRecursion (λ i. i < n) (range n)
+range-below n = range_from-below zero n n (omega arith)
+
+pub length-range_from : (m k : ℕ) → length (range_from m k) ≡ k
+length-range_from m zero = refl
+length-range_from m (suc k) = ap suc (length-range_from (suc m) k)
+
+length-entry : {A : Type 0} (xs : List A) (i : ℕ) (rest : List A) → i < length xs
+    → length (cons_option (slice_get xs i) rest) ≡ suc (length rest)
+length-entry [] i rest h = absurd (omega arith)
+length-entry (x ∷ xs) zero rest h = refl
+length-entry (x ∷ xs) (suc i) rest h = length-entry xs i rest (omega arith)
+
+pub length-at_places : {A : Type 0} (xs : List A) (is : List ℕ) → AllByRecursion (λ i. i < length xs) is
+    → length (at_places xs is) ≡ length is
+length-at_places xs [] h = refl
+length-at_places xs (i ∷ is) h = length-entry xs i (at_places xs is) h.0 ∙ ap suc (length-at_places xs is h.1)

@@ -1,0 +1,16 @@
+pub mod Ring
+pub mod Sequences
+pub mod Brackets
+pub mod Words
+pub mod Sums
+pub mod Polynomial
+pub mod Key
+pub mod BracketPolynomial
+pub mod Syzygy
+pub mod Value
+pub mod Placement
+pub mod SyzygyLaws
+pub mod ObjectLaws
+pub mod NormalLaws
+pub mod PlacementLaws
+pub mod Code

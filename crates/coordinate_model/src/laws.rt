@@ -1,0 +1,131 @@
+// The laws of the definitions. Each function does nothing; its clauses are what the definitions must give.
+ghost use Rattle.std.specs.Prelude.{ℕ};
+ghost use Rattle.coordinate_model.specs.Ring.{Integers, IsCommRing, IsHom};
+ghost use Rattle.coordinate_model.specs.Polynomial.{Polynomials};
+ghost use Rattle.coordinate_model.specs.Key.{Key};
+ghost use Rattle.coordinate_model.specs.BracketPolynomial.{KeySums, value};
+ghost use Rattle.coordinate_model.specs.Placement.{Placement, value_at};
+ghost use Rattle.coordinate_model.specs.SyzygyLaws.{SortedBracket, ZeroBracket, NonzeroBracket, ValueOfSorted};
+ghost use Rattle.coordinate_model.specs.SyzygyLaws.{SyzygyLaw, SyzygyOfFreePoints, ValueOfSyzygy, ValueOfMultiple};
+ghost use Rattle.coordinate_model.specs.SyzygyLaws.{PointsOfSyzygy, PointsOfMultiple};
+ghost use Rattle.coordinate_model.specs.SyzygyLaws.{ThreeTerms, ThreeTermsOfFreePoints};
+ghost use Rattle.coordinate_model.specs.ObjectLaws.{SortedExtensor, ZeroExtensor, FullExtensor, JoinLaw, LinearJoins};
+ghost use Rattle.coordinate_model.specs.ObjectLaws.{ShuffleLaw, MeetValue, LinearMeets};
+ghost use Rattle.coordinate_model.specs.ObjectLaws.{CombinationOfValues, JoinOfValues, MeetOfValues};
+ghost use Rattle.coordinate_model.specs.NormalLaws.{SamePolynomials, SameBracketPolynomials, HasCoefficients};
+ghost use Rattle.coordinate_model.specs.NormalLaws.{KeySumLaws, ValueOfSum, ValueOfProduct, MakesBracketPolynomials};
+ghost use Rattle.coordinate_model.specs.NormalLaws.{LexicographicOrder, GreatestOfKey, OneKey, Independent};
+ghost use Rattle.coordinate_model.specs.PlacementLaws.{ValueOfZero, ValueOfVariable, ValueOfBracket};
+ghost use Rattle.coordinate_model.specs.PlacementLaws.{KeepsBrackets, KeepsExtensors, KeepsJoins, KeepsMeets};
+ghost use Rattle.coordinate_model.specs.PlacementLaws.{KeepsCombinations, KeepsSixPoint};
+
+/// Coordinate polynomials are a commutative ring, and equal where every coefficient is.
+pub fn polynomials()
+    ensures ring { IsCommRing Polynomials }
+    ensures same { SamePolynomials }
+{}
+
+/// Bracket polynomials are equal where every coefficient is, obey the laws of a ring, and are closed under what is done
+/// to them.
+pub fn bracket_polynomials()
+    ensures same { SameBracketPolynomials }
+    ensures ring { KeySumLaws }
+    ensures coefficients { (k : Key) → HasCoefficients k }
+    ensures made { (d n : ℕ) → MakesBracketPolynomials d n }
+{}
+
+/// The value of a bracket polynomial keeps sums and products.
+pub fn values()
+    ensures sum { ValueOfSum }
+    ensures product { ValueOfProduct }
+    ensures all { IsHom KeySums Polynomials value }
+{}
+
+/// A bracket is its sign times the sorted bracket, and zero exactly where a point comes twice.
+pub fn sorted_brackets()
+    ensures sorted { SortedBracket }
+    ensures zero { ZeroBracket }
+    ensures increasing { NonzeroBracket }
+    ensures value { ValueOfSorted }
+{}
+
+/// The van der Waerden sum is zero: over integers, over coordinate polynomials, of free points, and collected.
+pub fn syzygies()
+    ensures integers { SyzygyLaw Integers }
+    ensures points { SyzygyLaw Polynomials }
+    ensures free_points { SyzygyOfFreePoints }
+    ensures collected { ValueOfSyzygy }
+    ensures multiples { ValueOfMultiple }
+{}
+
+/// Syzygies and their multiples are homogeneous: each of their keys has the same points, each as often.
+pub fn homogeneous_syzygies()
+    ensures collected { PointsOfSyzygy }
+    ensures multiples { PointsOfMultiple }
+{}
+
+/// The three-term identity of Grassmann and Pluecker.
+pub fn three_terms()
+    ensures points { ThreeTerms Polynomials }
+    ensures free_points { ThreeTermsOfFreePoints }
+{}
+
+/// An extensor is its sign times that of the sorted points, and zero where a point comes twice. That of d points is
+/// their bracket, at all columns.
+pub fn extensors()
+    ensures sorted { SortedExtensor }
+    ensures zero { ZeroExtensor }
+    ensures brackets { FullExtensor Polynomials }
+{}
+
+/// The join of two extensors is the extensor of their points.
+pub fn joins()
+    ensures integers { JoinLaw Integers }
+    ensures points { JoinLaw Polynomials }
+    ensures linear { LinearJoins Polynomials }
+{}
+
+/// The shuffle product of two extensors has the coordinates of their meet.
+pub fn meets()
+    ensures integers { ShuffleLaw Integers }
+    ensures points { ShuffleLaw Polynomials }
+    ensures free_points { MeetValue }
+    ensures linear { LinearMeets Polynomials }
+{}
+
+/// Combinations, joins and meets of values have the coordinates of those objects.
+pub fn objects()
+    ensures combinations { CombinationOfValues }
+    ensures joins { JoinOfValues }
+    ensures meets { MeetOfValues }
+{}
+
+/// The order of monomials is lexicographic, and the greatest monomial of a standard key's value tells the key.
+pub fn greatest_monomials()
+    ensures order { LexicographicOrder }
+    ensures greatest { GreatestOfKey }
+    ensures one { OneKey }
+{}
+
+/// A normal bracket polynomial is determined by its value.
+pub fn independence()
+    ensures { Independent }
+{}
+
+/// Values at a placement keep the operations of coordinate polynomials.
+pub fn placements()
+    ensures zero { (at : Placement) → ValueOfZero at }
+    ensures variables { (at : Placement) → ValueOfVariable at }
+    ensures operations { (at : Placement) → IsHom Polynomials Integers (value_at at) }
+{}
+
+/// Values at a placement keep brackets, extensors, joins, meets, combinations and the six-point polynomial.
+pub fn placed_objects()
+    ensures free_brackets { (at : Placement) → ValueOfBracket at }
+    ensures brackets { (at : Placement) → KeepsBrackets at }
+    ensures extensors { (at : Placement) → KeepsExtensors at }
+    ensures joins { (at : Placement) → KeepsJoins at }
+    ensures meets { (at : Placement) → KeepsMeets at }
+    ensures combinations { (at : Placement) → KeepsCombinations at }
+    ensures six_points { (at : Placement) → KeepsSixPoint at }
+{}
