@@ -1,0 +1,5 @@
+pub mod Numbers
+pub mod ProofText
+pub mod Answer
+pub mod Outcome
+pub mod Reply

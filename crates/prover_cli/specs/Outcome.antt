@@ -1,0 +1,57 @@
+-- What a call of the program does: it answers, or it tells of a fault after a front of the answer's bytes.
+use Rattle.std.specs.Prelude.{◌≡◌, ◌≢◌, ◌⊎◌, ℕ, List, [], ◌∷◌, ◌++◌, Option, Some, OnSome, IfSome, Result, Ok, codes}
+use Rattle.cay_base.specs.Bytes.{Gains, GainsFront}
+use Rattle.cay_base.specs.Causes.{Rose}
+use Rattle.coordinate_model.specs.Polynomial.{Polynomial, Polynomials, br}
+use Rattle.coordinate_model.specs.BracketPolynomial.{BracketPolynomial, IsNormal, value}
+use Rattle.construction_reader.specs.Plain.{plain_of}
+use Rattle.construction_reader.specs.declared.plain.Plain.{Plain}
+use Rattle.prover_cli.specs.declared.status.Status.{Status}
+use Rattle.prover_cli.specs.declared.status.Status.TheVariants.{Proved, Refuted, Usage, TextRefused, ReadFault, WriteFault, Memory}
+use Rattle.prover_cli.specs.ProofText.{text_of, polynomial_lines, verdict_line}
+use Rattle.prover_cli.specs.Answer.{Answer, answer}
+
+-- the whole input: what the source had left, where it told it
+abbrev pub IsInput : Option (List ℕ) → List ℕ → Type 0
+IsInput left input = IfSome left (λ bytes. input ≡ bytes)
+
+-- what the sink held before and after, by the status: all of the answer, a front of it, or nothing
+abbrev pub Writes : Answer → Status → Option (List ℕ) → Option (List ℕ) → Type 0
+Writes answer ReadFault before after = Gains before after []
+Writes answer WriteFault before after = GainsFront before after (text_of answer.lines)
+Writes answer Memory before after = GainsFront before after (text_of answer.lines)
+Writes answer status before after = (answer.status ≡ status) × Gains before after (text_of answer.lines)
+
+-- what a call that puts a text for this status answers: the status, or a write fault after a front of the text
+abbrev pub Written : List ℕ → Status → Status → Option (List ℕ) → Option (List ℕ) → ℕ → ℕ → Type 0
+Written text status result before after faults_before faults_after =
+    ((result ≡ status) × Gains before after text)
+    ⊎ ((result ≡ WriteFault) × GainsFront before after text × Rose faults_before faults_after)
+
+-- the coordinate polynomial of the conclusion
+abbrev pub conclusion : Plain → Polynomial
+conclusion plain = br plain.three
+
+-- The lines between the last `end` and the verdict are the terms of the one normal polynomial whose value is the
+-- conclusion's, and the verdict says whether that is zero.
+pub record Decides (input : List ℕ) (answer : Answer) : Type 0 where
+  pub plain : Plain
+  pub reads : plain_of input ≡ Ok plain
+  pub polynomial : BracketPolynomial
+  pub normal : IsNormal 3 0 polynomial
+  pub same_value : value polynomial ≡ conclusion plain
+  pub front : List (List ℕ)
+  pub ends : answer.lines ≡ front ++ (codes "end" ∷ (polynomial_lines plain.free polynomial ++ verdict_line polynomial.terms ∷ []))
+  pub proved : answer.status ≡ Proved → conclusion plain ≡ Polynomials.𝟘
+  pub refuted : answer.status ≡ Refuted → conclusion plain ≢ Polynomials.𝟘
+
+-- the status is a verdict
+abbrev pub IsVerdict : Status → Type 0
+IsVerdict status = (status ≡ Proved) ⊎ (status ≡ Refuted)
+
+-- what a call does with these words, where the source told what it had left and the sink what it held
+pub record Answers (words : List (List ℕ)) (left before after : Option (List ℕ)) (status : Status) : Type 0 where
+  pub input : List ℕ
+  pub is_input : IsInput left input
+  pub writes : Writes (answer words input) status before after
+  pub decides : IsVerdict status → Decides input (answer words input)

@@ -1,0 +1,21 @@
+-- Replies: what the program keeps of an answer before it writes it.
+use Rattle.std.specs.Prelude.{◌≡◌, ◌⊎◌, ℕ, List, Option}
+use Rattle.prover_cli.specs.declared.reply.Reply.{Reply}
+use Rattle.prover_cli.specs.declared.status.Status.{Status}
+use Rattle.prover_cli.specs.declared.status.Status.TheVariants.{TextRefused}
+use Rattle.prover_cli.specs.ProofText.{text_of}
+use Rattle.prover_cli.specs.Answer.{Answer, prove_answer}
+use Rattle.prover_cli.specs.Outcome.{IsInput, IsVerdict, Decides}
+
+-- the reply has the status and the text of the answer
+pub record IsReply (answer : Answer) (reply : Reply) : Type 0 where
+  pub status : reply.status ≡ answer.status
+  pub text : reply.text.items ≡ text_of answer.lines
+
+-- a reply to the whole input, which is what the source had left
+pub record IsReplyTo (left : Option (List ℕ)) (reply : Reply) : Type 0 where
+  pub input : List ℕ
+  pub is_input : IsInput left input
+  pub reply_is : IsReply (prove_answer input) reply
+  pub status : IsVerdict reply.status ⊎ (reply.status ≡ TextRefused)
+  pub decides : IsVerdict reply.status → Decides input (prove_answer input)

@@ -1,0 +1,42 @@
+//! Decides theorems of incidence that are given by constructions: reads a text on standard input, and writes a proof of
+//! the verdict on standard output.
+#![tactic(auto)]
+
+mod lines;
+mod proof_text;
+mod reply;
+mod run;
+mod status;
+
+use cay_base::{StdSink, StdSource};
+use run::run;
+use std::alloc::Global;
+use std::process::ExitCode;
+use std::{env, io};
+
+/// The status where the system does not hand the words over as texts.
+const NO_TEXTS: u8 = 10;
+
+/// The status where memory for the words is wanting.
+const NO_MEMORY: u8 = 7;
+
+fn main(rt: HostRuntime) -> ExitCode {
+    let alloc = rt.alloc();
+    match words_after_name(&rt, alloc) {
+        Ok(words) => {
+            let mut source = StdSource::new(rt.stdin());
+            let mut sink = StdSink::new(rt.stdout());
+            ExitCode::from(run(alloc, &words, &mut source, &mut sink).number())
+        }
+        Err(error) if error.kind() == io::ErrorKind::OutOfMemory => ExitCode::from(NO_MEMORY),
+        Err(_) => ExitCode::from(NO_TEXTS),
+    }
+}
+
+/// The words after the program's name.
+fn words_after_name(rt: &HostRuntime, alloc: Global) -> io::Result<Vec<String>> {
+    Ok(env::args(rt)?.skip(1).collect(alloc)?)
+}
+
+#[cfg(test)]
+mod tests;

@@ -1,0 +1,213 @@
+//! What no clause says: whole runs in memory against texts and answers worked by hand.
+
+use crate::run::run;
+use crate::status::Status;
+use cay_base::{MemSink, MemSource, WholeSink, WholeSource};
+use std::alloc::{AllocError, Global};
+use std::test::Fail;
+
+const SMALLEST: &[u8] = b"construction 1\nrank 3\nfree A B C\nconclude collinear A B C\n";
+
+const SMALLEST_PROOF: &[u8] =
+    b"proof 1\nrank 3\nfree A B C\nparams\nobject 1 step 2\nscalar A B\nstart\n+1\nend\n+1\nobject 2 step 3\nscalar\nstart\n+1 [A B C]\nend\n+1 [A B C]\nrefuted\n";
+
+const SIGN_PROOF: &[u8] =
+    b"proof 1\nrank 3\nfree A B C\nparams\nobject 1 step 2\nscalar A B\nstart\n-1\nend\n-1\nobject 2 step 3\nscalar\nstart\n-1 [A B C]\nend\n-1 [A B C]\nrefuted\n";
+
+const REPEATED_PROOF: &[u8] =
+    b"proof 1\nrank 3\nfree A B C\nparams\nobject 1 step 2\nscalar A C\nstart\n+1\nend\n+1\nobject 2 step 3\nscalar\nstart\nzero\nend\nzero\nproved\n";
+
+const USAGE: &[u8] =
+    b"usage: prove [--budget N] [--contract] | check | same [--budget N] [--contract] | degenerate [--budget N] | place | sample N [--budget N]\n";
+
+/// The words as the system would hand them over.
+fn words_of(alloc: Global, words: &[&str]) -> Result<Vec<String>, AllocError> {
+    let mut list = Vec::new(alloc);
+    for word in words {
+        list.push(String::from_str(alloc, word)?)?;
+    }
+    Ok(list)
+}
+
+/// The status and the output of a run in memory.
+fn answer_to(alloc: Global, words: &[&str], input: &[u8]) -> Result<(Status, Vec<u8>), Fail> {
+    let words = words_of(alloc, words)?;
+    let mut source = WholeSource::new(input.to_vec(alloc)?);
+    let mut sink = WholeSink::with_room(alloc, 16384)?;
+    let status = run(alloc, &words, &mut source, &mut sink);
+    Ok((status, sink.bytes().to_vec(alloc)?))
+}
+
+#[test]
+fn decides_plain_texts(rt: HostRuntime) -> Result<(), Fail> {
+    let cases: [(&[u8], Status, &[u8]); 4] = [
+        (SMALLEST, Status::Refuted, SMALLEST_PROOF),
+        (
+            b"construction 1\nrank 3\nfree A B C\nconclude collinear B A C\n",
+            Status::Refuted,
+            SIGN_PROOF,
+        ),
+        (
+            b"construction 1\nrank 3\nfree A B C\nconclude collinear B C A\n",
+            Status::Refuted,
+            b"proof 1\nrank 3\nfree A B C\nparams\nobject 1 step 2\nscalar B C\nstart\n+1\nend\n+1\nobject 2 step 3\nscalar\nstart\n+1 [A B C]\nend\n+1 [A B C]\nrefuted\n",
+        ),
+        (
+            b"construction 1\nrank 3\nfree A B C\nconclude collinear A C A\n",
+            Status::Proved,
+            REPEATED_PROOF,
+        ),
+    ];
+    for (input, status, output) in cases {
+        let (answered, written) = answer_to(rt.alloc(), &["prove"], input)?;
+        assert_eq!(rt; answered, status, "at {input:?}");
+        assert_eq!(rt; written.as_slice(), output, "at {input:?}");
+    }
+    Ok(())
+}
+
+#[test]
+fn refuses_other_texts(rt: HostRuntime) -> Result<(), Fail> {
+    let cases: [(&[u8], u32); 24] = [
+        (b"", 1),
+        (b"construction 1", 1),
+        (b"construction 2\n", 1),
+        (b" construction 1\n", 1),
+        (b"construction 1\r\nrank 3\r\n", 1),
+        (b"\nconstruction 1\n", 1),
+        (b"construction 1\n", 2),
+        (b"construction 1\nrank 4\n", 2),
+        (b"construction 1\nrank  3\n", 2),
+        (b"construction 1\nrank 3", 2),
+        (b"construction 1\nrank 3\n", 3),
+        (b"construction 1\nrank 3\nfree\n", 3),
+        (b"construction 1\nrank 3\nfree A  B C\n", 3),
+        (b"construction 1\nrank 3\nfree A B A\n", 3),
+        (b"construction 1\nrank 3\nfree A 1 C\n", 3),
+        (b"construction 1\nrank 3\nfree A B\xff C\n", 3),
+        (b"construction 1\nrank 3\nfree A conic C\n", 3),
+        (b"construction 1\nrank 3\nfree A B C # three\n", 3),
+        (b"construction 1\nrank 3\nfree A B C\n", 4),
+        (
+            b"construction 1\nrank 3\nfree A B C\nconclude collinear A B\n",
+            4,
+        ),
+        (
+            b"construction 1\nrank 3\nfree A B C\nconclude conic A B C\n",
+            4,
+        ),
+        (
+            b"construction 1\nrank 3\nfree A B\nconclude collinear A B X\n",
+            4,
+        ),
+        (
+            b"construction 1\nrank 3\nfree A B C\nconclude collinear A B C",
+            4,
+        ),
+        (
+            b"construction 1\nrank 3\nfree A B C\nconclude collinear A B C\n\n",
+            5,
+        ),
+    ];
+    let alloc = rt.alloc();
+    for (input, line) in cases {
+        let (status, written) = answer_to(alloc, &["prove"], input)?;
+        let output = format!(in alloc; "refused line {line} later\n")?;
+        assert_eq!(rt; status, Status::TextRefused, "at {input:?}");
+        assert_eq!(rt; written.as_slice(), output.as_bytes(), "at {input:?}");
+    }
+    Ok(())
+}
+
+/// A text with so many points.
+fn text_with(alloc: Global, points: u32) -> Result<String, AllocError> {
+    let mut text = String::from_str(alloc, "construction 1\nrank 3\nfree")?;
+    for point in 0..points {
+        text.push_str(format!(in alloc; " P{point}")?.as_str())?;
+    }
+    text.push_str("\nconclude collinear P0 P1 P2\n")?;
+    Ok(text)
+}
+
+#[test]
+fn keeps_the_limits(rt: HostRuntime) -> Result<(), Fail> {
+    let alloc = rt.alloc();
+    for (points, status) in [
+        (3, Status::Refuted),
+        (200, Status::Refuted),
+        (201, Status::TextRefused),
+    ] {
+        let text = text_with(alloc, points)?;
+        assert_eq!(rt;
+            answer_to(alloc, &["prove"], text.as_bytes())?.0,
+            status,
+            "with {points} points"
+        );
+    }
+    for (bytes, status) in [(32, Status::Proved), (33, Status::TextRefused)] {
+        let name = vec![in alloc; b'n'; bytes]?;
+        let mut text = b"construction 1\nrank 3\nfree A ".to_vec(alloc)?;
+        text.extend_from_slice(&name)?;
+        text.extend_from_slice(b"\nconclude collinear A A ")?;
+        text.extend_from_slice(&name)?;
+        text.push(b'\n')?;
+        assert_eq!(rt;
+            answer_to(alloc, &["prove"], &text)?.0,
+            status,
+            "with {bytes} bytes"
+        );
+    }
+    for (bytes, output) in [
+        (1_048_576, b"refused line 1 later\n".as_slice()),
+        (1_048_577, b"refused long\n".as_slice()),
+    ] {
+        let text = vec![in alloc; b'#'; bytes]?;
+        let (status, written) = answer_to(alloc, &["prove"], &text)?;
+        assert_eq!(rt; status, Status::TextRefused, "with {bytes} bytes");
+        assert_eq!(rt; written.as_slice(), output, "with {bytes} bytes");
+    }
+    Ok(())
+}
+
+#[test]
+fn tells_the_usage(rt: HostRuntime) -> Result<(), Fail> {
+    let alloc = rt.alloc();
+    let cases: [&[&str]; 6] = [
+        &[],
+        &["Prove"],
+        &["prove", "--budget", "0"],
+        &["check", "--contract"],
+        &["sample", "13"],
+        &["--help"],
+    ];
+    for words in cases {
+        let (status, written) = answer_to(alloc, words, SMALLEST)?;
+        assert_eq!(rt; status, Status::Usage);
+        assert_eq!(rt; written.as_slice(), USAGE);
+    }
+    Ok(())
+}
+
+#[test]
+fn tells_of_faults(rt: HostRuntime) -> Result<(), Fail> {
+    let alloc = rt.alloc();
+    let words = words_of(alloc, &["prove"])?;
+    let none = Vec::new(alloc);
+    let mut source = MemSource::new(SMALLEST.to_vec(alloc)?, 7, vec![in alloc; 0]?);
+    let mut sink = MemSink::with_room(alloc, 1024, none)?;
+    assert_eq!(rt;
+        run(alloc, &words, &mut source, &mut sink),
+        Status::ReadFault
+    );
+    assert_eq!(rt; sink.bytes(), b"".as_slice());
+
+    // The third line is the first that fails, after its first half.
+    let mut source = MemSource::new(SMALLEST.to_vec(alloc)?, 7, Vec::new(alloc));
+    let mut sink = MemSink::with_room(alloc, 1024, vec![in alloc; 2]?)?;
+    assert_eq!(rt;
+        run(alloc, &words, &mut source, &mut sink),
+        Status::WriteFault
+    );
+    assert_eq!(rt; sink.bytes(), b"proof 1\nrank 3\nfree ".as_slice());
+    Ok(())
+}
