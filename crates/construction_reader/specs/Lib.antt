@@ -1,3 +1,14 @@
 pub mod Words
+pub mod Said
+pub mod Seen
 pub mod Outcome
-pub mod Plain
+pub mod Objects
+pub mod Sentences
+pub mod Lines
+pub mod Params
+pub mod Texts
+pub mod Grammar
+pub mod Printed
+pub mod TextOf
+pub mod Given
+pub mod Faults

@@ -1,14 +1,14 @@
--- Bytes and words: which of them may stand in a name, and which are names.
-use Rattle.std.specs.Prelude.{ℕ, Bool, false, not, ◌&&◌, ◌||◌, nat_le, ◌==◌, List, [], ◌∷◌, length, codes}
-use Rattle.std.specs.List.{list_any, list_all}
+-- The bytes of a line, its tokens, and which tokens are names.
+use Rattle.std.specs.Prelude.{ℕ, Bool, false, not, ◌&&◌, ◌||◌, nat_le, ◌==◌, List, [], ◌∷◌, length, codes, if◌then◌else◌}
+use Rattle.std.specs.List.{list_any, list_all, position_or_len}
 use Rattle.std.specs.Str.{bytes_eq}
 
+-- whether the token is this text
 infix 8 ◌is◌
--- whether the token has these bytes
 abbrev pub ◌is◌ : List ℕ → List ℕ → Bool
 token is text = bytes_eq token text
 
--- whether b is at least low and at most high
+-- whether the byte lies from low to high
 abbrev pub is_between : ℕ → ℕ → ℕ → Bool
 is_between low high b = nat_le low b && nat_le b high
 
@@ -20,6 +20,41 @@ is_letter b = is_between 65 90 b || is_between 97 122 b
 abbrev pub is_name_byte : ℕ → Bool
 is_name_byte b = is_letter b || is_between 48 57 b || b == 95 || b == 39
 
+-- the parentheses and the equals sign
+abbrev pub is_sign : ℕ → Bool
+is_sign b = b == 40 || b == 41 || b == 61
+
+-- the space and the tab
+abbrev pub is_space : ℕ → Bool
+is_space b = b == 32 || b == 9
+
+-- whether a name byte comes first
+abbrev pub begins_with_name_byte : List ℕ → Bool
+begins_with_name_byte [] = false
+begins_with_name_byte (b ∷ bytes) = is_name_byte b
+
+-- whether a token begins at this byte, behind none that reaches it
+abbrev pub begins_token : ℕ → Bool
+begins_token b = is_name_byte b || is_sign b
+
+-- how many bytes the token at the front has, or 1 at a space
+abbrev pub front_length : List ℕ → ℕ
+front_length bytes = if begins_with_name_byte bytes then position_or_len (λ b. not (is_name_byte b)) bytes else 1
+
+-- the byte in front of the first token
+abbrev pub onto_first : ℕ → List (List ℕ) → List (List ℕ)
+onto_first b [] = (b ∷ []) ∷ []
+onto_first b (run ∷ tokens) = (b ∷ run) ∷ tokens
+
+-- the tokens: the longest runs of name bytes, and each sign by itself
+unfoldable pub tokens_of : List ℕ → List (List ℕ)
+tokens_of [] = []
+tokens_of (b ∷ bytes) =
+    if is_name_byte b then
+    (if begins_with_name_byte bytes then onto_first b (tokens_of bytes) else (b ∷ []) ∷ tokens_of bytes)
+    else if is_sign b then (b ∷ []) ∷ tokens_of bytes
+    else tokens_of bytes
+
 -- the words that are no names
 abbrev pub keywords : List (List ℕ)
 keywords = codes "construction" ∷ codes "rank" ∷ codes "free" ∷ codes "point" ∷ codes "line" ∷ codes "plane"
@@ -27,15 +62,16 @@ keywords = codes "construction" ∷ codes "rank" ∷ codes "free" ∷ codes "poi
     ∷ codes "conclude" ∷ codes "collinear" ∷ codes "concurrent" ∷ codes "coplanar" ∷ codes "meeting"
     ∷ codes "incident" ∷ codes "conic" ∷ []
 
--- whether it is one of them
+-- whether it is a keyword
 unfoldable pub is_keyword : List ℕ → Bool
 is_keyword token = list_any (λ word. word is token) keywords
 
--- whether the first byte is a letter
+-- whether a letter comes first
 abbrev pub begins_with_letter : List ℕ → Bool
 begins_with_letter [] = false
 begins_with_letter (b ∷ bytes) = is_letter b
 
--- whether it is a name: name bytes of which the first is a letter, at most 32, and no keyword
+-- whether these bytes are a name: at most 32 name bytes, of which the first is a letter, and no keyword
 unfoldable pub is_name : List ℕ → Bool
-is_name token = begins_with_letter token && list_all is_name_byte token && nat_le (length token) 32 && not (is_keyword token)
+is_name bytes =
+    begins_with_letter bytes && nat_le (length bytes) 32 && list_all is_name_byte bytes && not (is_keyword bytes)

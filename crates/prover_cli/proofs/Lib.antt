@@ -1,6 +1,9 @@
+pub mod Rows
 pub mod Writing
 pub mod Texts
 pub mod SortedLines
 pub mod Verdicts
 pub mod Inputs
+pub mod AnswerLaws
 pub mod Outcomes
+pub mod Replies

@@ -1,5 +1,5 @@
--- A plain text's proof decides its conclusion.
-use Rattle.std.proofs.Common.{◌≡◌, ◌↔◌, IsTrue, ℕ, Bool, true, false, List, [], ◌∷◌, ◌++◌, length, codes, refl, sym, ap, ◌∙◌, append_assoc, Result, Ok, Err, IfOk, slice_index, arith}
+-- The proof that is written decides the conclusion.
+use Rattle.std.proofs.Common.{◌≡◌, ◌↔◌, IsTrue, ℕ, Bool, true, false, List, [], ◌∷◌, ◌++◌, length, codes, refl, sym, ap, ◌∙◌, append_assoc, Result, Ok, Err, IsOkAnd, slice_index, arith}
 use Rattle.coordinate_model.specs.Sequences.{IsRank, is_odd, repeats}
 use Rattle.coordinate_model.specs.Polynomial.{Polynomials, br}
 use Rattle.coordinate_model.specs.BracketPolynomial.{BracketPolynomial}
@@ -9,13 +9,14 @@ use Rattle.coordinate_model.proofs.SortedBrackets.{terms-twice, terms-once, norm
 use Rattle.coordinate_model.proofs.ZeroBrackets.{zero_bracket_law}
 use Rattle.bracket_terms.specs.declared.signed.Signed.{Signed}
 use Rattle.bracket_terms.specs.declared.signed.Signed.TheVariants.{Zero}
-use Rattle.construction_reader.specs.Plain.{plain_of}
-use Rattle.construction_reader.specs.declared.plain.Plain.{Plain}
+use Rattle.construction_reader.specs.Said.{Account}
+use Rattle.construction_reader.specs.TextOf.{TextOf}
 use Rattle.prover_cli.specs.declared.status.Status.{Status}
 use Rattle.prover_cli.specs.declared.status.Status.TheVariants.{Proved, Refuted}
 use Rattle.prover_cli.specs.ProofText.{spaced, polynomial_lines, section_lines, join_lines, verdict_line, proof_lines}
-use Rattle.prover_cli.specs.Answer.{Answer, verdict, text_answer}
-use Rattle.prover_cli.specs.Outcome.{Decides, conclusion}
+use Rattle.prover_cli.specs.Plain.{Points, points_of}
+use Rattle.prover_cli.specs.Answer.{verdict, points_answer}
+use Rattle.prover_cli.specs.Outcome.{Decides}
 
 -- a bracket with a point twice is zero, and any other is not
 pub proved_where : (ps : List ℕ) → repeats ps ≡ true → Proved ≡ verdict (sorted_bracket ps).terms
@@ -46,20 +47,22 @@ cut_at_end free first lines join verdict =
     ∙ sym (append_assoc join (first ∷ spaced (codes "scalar" ∷ []) ∷ codes "start" ∷ lines)
     (codes "end" ∷ (lines ++ verdict ∷ [])))
 
--- the answer to a plain text decides it
-pub decided : (input : List ℕ) (plain : Plain) → plain_of input ≡ Ok plain → length plain.three ≡ 3
-    → Decides input (text_answer (Ok plain))
+-- the answer to a construction of points decides it
+decided : (input : List ℕ) (account : Account) (points : Points) → TextOf input account → points_of account ≡ Ok points
+    → length points.three ≡ 3 → Decides input (points_answer (Ok points))
 unfolding proof_lines
-decided input plain reads count =
-    let ps : List ℕ = plain.three in
-    let free : List (List ℕ) = plain.free in
+decided input account points gives are_points count =
+    let ps : List ℕ = points.three in
+    let free : List (List ℕ) = points.free in
     let polynomial : BracketPolynomial = sorted_bracket ps in
     let rank : IsRank (length ps) = (omega arith, omega arith) in
     let join : List (List ℕ) = join_lines free (slice_index ps 0 ∷ slice_index ps 1 ∷ []) in
     let lines : List (List ℕ) = polynomial_lines free polynomial in
     record {
-      plain = plain;
-      reads = reads;
+      account = account;
+      gives = gives;
+      points = points;
+      are_points = are_points;
       polynomial = polynomial;
       normal = normal-sorted_bracket 3 ps count;
       same_value = value_of_sorted ps rank;
@@ -72,11 +75,11 @@ decided input plain reads count =
       refuted = refuted_is_not ps rank;
     }
 
--- and so where a call that answers it succeeds
-pub on_ok_decided : {T E : Type 0} (r : Result T E) (P : T → Type 0) (input : List ℕ) (answer : Answer) → Decides input answer
-    → IfOk r (λ reply. P reply → Decides input answer)
-on_ok_decided (Ok x) P input answer decides = λ _. decides
-on_ok_decided (Err e) P input answer decides = tt
+-- whatever the points are, where there are some
+pub decided_by : (input : List ℕ) (account : Account) (r : Result Points ℕ) → TextOf input account → points_of account ≡ r
+    → IsOkAnd r (λ points. length points.three ≡ 3) → Decides input (points_answer r)
+decided_by input account (Ok points) gives e count = decided input account points gives e count
+decided_by input account (Err line) gives e none = absurd none
 
 -- what sorting does not call zero has no point twice
 pub once_where : {d : ℕ} (ps : List ℕ) (r : Signed d) → (r ≡ Zero) ↔ IsTrue (repeats ps) → (r ≡ Zero → ⊥) → repeats ps ≡ false

@@ -1,4 +1,6 @@
 pub mod Numbers
+pub mod Plain
+pub mod Given
 pub mod ProofText
 pub mod Answer
 pub mod Outcome

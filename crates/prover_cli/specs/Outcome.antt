@@ -4,12 +4,13 @@ use Rattle.cay_base.specs.Bytes.{Gains, GainsFront}
 use Rattle.cay_base.specs.Causes.{Rose}
 use Rattle.coordinate_model.specs.Polynomial.{Polynomial, Polynomials, br}
 use Rattle.coordinate_model.specs.BracketPolynomial.{BracketPolynomial, IsNormal, value}
-use Rattle.construction_reader.specs.Plain.{plain_of}
-use Rattle.construction_reader.specs.declared.plain.Plain.{Plain}
+use Rattle.construction_reader.specs.Said.{Account}
+use Rattle.construction_reader.specs.TextOf.{TextOf}
 use Rattle.prover_cli.specs.declared.status.Status.{Status}
 use Rattle.prover_cli.specs.declared.status.Status.TheVariants.{Proved, Refuted, Usage, TextRefused, ReadFault, WriteFault, Memory}
 use Rattle.prover_cli.specs.ProofText.{text_of, polynomial_lines, verdict_line}
-use Rattle.prover_cli.specs.Answer.{Answer, answer}
+use Rattle.prover_cli.specs.Plain.{Points, points_of}
+use Rattle.prover_cli.specs.Answer.{Answer, IsAnswer}
 
 -- the whole input: what the source had left, where it told it
 abbrev pub IsInput : Option (List ℕ) → List ℕ → Type 0
@@ -29,21 +30,24 @@ Written text status result before after faults_before faults_after =
     ⊎ ((result ≡ WriteFault) × GainsFront before after text × Rose faults_before faults_after)
 
 -- the coordinate polynomial of the conclusion
-abbrev pub conclusion : Plain → Polynomial
-conclusion plain = br plain.three
+abbrev pub conclusion : Points → Polynomial
+conclusion points = br points.three
 
--- The lines between the last `end` and the verdict are the terms of the one normal polynomial whose value is the
--- conclusion's, and the verdict says whether that is zero.
+-- The text gives a construction of free points and a conclusion; the lines between the last `end` and the verdict are the
+-- terms of the one normal polynomial whose value is the conclusion's, and the verdict says whether that is zero.
 pub record Decides (input : List ℕ) (answer : Answer) : Type 0 where
-  pub plain : Plain
-  pub reads : plain_of input ≡ Ok plain
+  pub account : Account
+  pub gives : TextOf input account
+  pub points : Points
+  pub are_points : points_of account ≡ Ok points
   pub polynomial : BracketPolynomial
   pub normal : IsNormal 3 0 polynomial
-  pub same_value : value polynomial ≡ conclusion plain
+  pub same_value : value polynomial ≡ conclusion points
   pub front : List (List ℕ)
-  pub ends : answer.lines ≡ front ++ (codes "end" ∷ (polynomial_lines plain.free polynomial ++ verdict_line polynomial.terms ∷ []))
-  pub proved : answer.status ≡ Proved → conclusion plain ≡ Polynomials.𝟘
-  pub refuted : answer.status ≡ Refuted → conclusion plain ≢ Polynomials.𝟘
+  pub ends : answer.lines
+      ≡ front ++ (codes "end" ∷ (polynomial_lines points.free polynomial ++ verdict_line polynomial.terms ∷ []))
+  pub proved : answer.status ≡ Proved → conclusion points ≡ Polynomials.𝟘
+  pub refuted : answer.status ≡ Refuted → conclusion points ≢ Polynomials.𝟘
 
 -- the status is a verdict
 abbrev pub IsVerdict : Status → Type 0
@@ -53,5 +57,7 @@ IsVerdict status = (status ≡ Proved) ⊎ (status ≡ Refuted)
 pub record Answers (words : List (List ℕ)) (left before after : Option (List ℕ)) (status : Status) : Type 0 where
   pub input : List ℕ
   pub is_input : IsInput left input
-  pub writes : Writes (answer words input) status before after
-  pub decides : IsVerdict status → Decides input (answer words input)
+  pub answer : Answer
+  pub is_answer : IsAnswer words input answer
+  pub writes : Writes answer status before after
+  pub decides : IsVerdict status → Decides input answer

@@ -4,7 +4,7 @@ use Rattle.prover_cli.specs.declared.reply.Reply.{Reply}
 use Rattle.prover_cli.specs.declared.status.Status.{Status}
 use Rattle.prover_cli.specs.declared.status.Status.TheVariants.{TextRefused}
 use Rattle.prover_cli.specs.ProofText.{text_of}
-use Rattle.prover_cli.specs.Answer.{Answer, prove_answer}
+use Rattle.prover_cli.specs.Answer.{Answer, IsTextAnswer, IsProveAnswer}
 use Rattle.prover_cli.specs.Outcome.{IsInput, IsVerdict, Decides}
 
 -- the reply has the status and the text of the answer
@@ -16,6 +16,16 @@ pub record IsReply (answer : Answer) (reply : Reply) : Type 0 where
 pub record IsReplyTo (left : Option (List ℕ)) (reply : Reply) : Type 0 where
   pub input : List ℕ
   pub is_input : IsInput left input
-  pub reply_is : IsReply (prove_answer input) reply
+  pub answer : Answer
+  pub is_answer : IsProveAnswer input answer
+  pub reply_is : IsReply answer reply
   pub status : IsVerdict reply.status ⊎ (reply.status ≡ TextRefused)
-  pub decides : IsVerdict reply.status → Decides input (prove_answer input)
+  pub decides : IsVerdict reply.status → Decides input answer
+
+-- a reply to a text
+pub record IsTextReply (text : List ℕ) (reply : Reply) : Type 0 where
+  pub answer : Answer
+  pub is_answer : IsTextAnswer text answer
+  pub reply_is : IsReply answer reply
+  pub status : IsVerdict reply.status ⊎ (reply.status ≡ TextRefused)
+  pub decides : IsVerdict reply.status → Decides text answer

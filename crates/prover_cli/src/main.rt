@@ -2,7 +2,9 @@
 //! the verdict on standard output.
 #![tactic(auto)]
 
+mod laws;
 mod lines;
+mod plain;
 mod proof_text;
 mod reply;
 mod run;

@@ -9,16 +9,16 @@ ghost use Rattle.prover_cli.specs.ProofText.{polynomial_lines, text_of, proof_li
 use crate::lines::add_line;
 use bracket_terms::{Signed, sort};
 use cay_base::NoMemory;
-use construction_reader::{Name, Plain};
+use construction_reader::Name;
 use std::alloc::Global;
 
-/// The proof text, which ends with the verdict.
-pub fn proof_text(alloc: Global, plain: &Plain) -> Result<Vec<u8>, NoMemory>
-    requires { All (λ point. point < length plain.now.free) plain.now.three }
-    ensures { IfOk result (λ out. out.items ≡ text_of (proof_lines plain.now.free plain.now.three)) }
+/// The proof text on three free points, which ends with the verdict.
+pub fn proof_text(alloc: Global, free: &[Name], three: [u8; 3]) -> Result<Vec<u8>, NoMemory>
+    requires { All (λ point. point < length free.now) three }
+    ensures { IfOk result (λ out. out.items ≡ text_of (proof_lines free.now three)) }
 {
     let mut out = Vec::new(alloc);
-    add_proof(alloc, &mut out, plain.free.items(), plain.three)?;
+    add_proof(alloc, &mut out, free, three)?;
     Ok(out)
 }
 

@@ -1,20 +1,23 @@
 //! What the program answers to its input.
 
-ghost use Rattle.std.specs.Prelude.{◌≡◌, ◌<◌, ◌≤◌, ◌⊎◌, [], Some, Ok, length, All, IfOk, IfErr, IfSome, OnOk};
+ghost use Rattle.std.specs.Prelude.{◌≡◌, ◌<◌, ◌≤◌, ◌⊎◌, [], Some, Ok, length, All, IfOk, IfErr, IfSome, IsOkAnd};
 ghost use Rattle.cay_base.specs.Causes.{Rose};
 ghost use Rattle.coordinate_model.specs.Syzygy.{sorted_bracket};
-ghost use Rattle.construction_reader.specs.Plain.{plain_of};
-ghost use Rattle.construction_reader.specs.declared.plain.TheConstants.{LONGEST};
-ghost use Rattle.prover_cli.specs.Answer.{text_answer, refused, verdict};
-ghost use Rattle.prover_cli.specs.Outcome.{Decides, IsVerdict};
-ghost use Rattle.prover_cli.specs.Reply.{IsReply, IsReplyTo};
+ghost use Rattle.construction_reader.specs.Seen.{account};
+ghost use Rattle.construction_reader.specs.declared.reading.TheConstants.{LONGEST};
+ghost use Rattle.prover_cli.specs.Answer.{points_answer, refused, refused_at, kind_word, verdict};
+ghost use Rattle.prover_cli.specs.Given.{points};
+ghost use Rattle.prover_cli.specs.Outcome.{IsVerdict};
+ghost use Rattle.prover_cli.specs.Plain.{points_of};
+ghost use Rattle.prover_cli.specs.Reply.{IsReply, IsReplyTo, IsTextReply};
 
 use crate::lines::add_line;
+use crate::plain::{Plain, PlainError, plain_points};
 use crate::proof_text::proof_text;
 use crate::status::Status;
 use bracket_terms::{Signed, sort};
 use cay_base::{NoMemory, ReadError, Source, read_all};
-use construction_reader::{LONGEST, Plain, PlainError, read_plain};
+use construction_reader::{Construction, Kind, LONGEST, ReadTextError, read};
 use std::alloc::Global;
 
 /// A status, and the text that goes with it.
@@ -48,16 +51,50 @@ pub fn answer<S: Source>(alloc: Global, source: &mut S) -> Result<Reply, Status>
 /// The answer to a text.
 fn reply_to(alloc: Global, text: &[u8]) -> Result<Reply, NoMemory>
     requires { length text.now ≤ LONGEST }
-    ensures reply { IfOk result (IsReply (text_answer (plain_of text.now))) }
-    ensures decides { IfOk result (λ reply. IsVerdict reply.status → Decides text.now (text_answer (plain_of text.now))) }
+    ensures { IfOk result (IsTextReply text.now) }
 {
-    match read_plain(alloc, text) {
+    match read(alloc, text) {
+        Ok(construction) => reply_to_points(alloc, &construction),
+        Err(ReadTextError::Fault(fault)) => refuse_at(alloc, fault.line, kind_word(fault.kind)),
+        Err(ReadTextError::Memory) => Err(NoMemory),
+    }
+}
+
+/// The answer to a construction.
+fn reply_to_points(alloc: Global, construction: &Construction) -> Result<Reply, NoMemory>
+    ensures reply { IfOk result (IsReply (points_answer (points_of (account construction.now)))) }
+    ensures status { IfOk result (λ reply. IsVerdict reply.status ⊎ (reply.status ≡ Status.TextRefused)) }
+    ensures verdict { IfOk result (λ reply. IsVerdict reply.status → IsOkAnd (points_of (account construction.now)) (λ points. length points.three ≡ 3)) }
+{
+    match plain_points(alloc, construction) {
         Ok(plain) => decide(alloc, &plain),
-        Err(PlainError::Later(line)) => {
-            refuse(alloc, format!(in alloc; "line {line} later")?.as_bytes())
-        }
+        Err(PlainError::Later(line)) => refuse_at(alloc, line, "later"),
         Err(PlainError::Memory) => Err(NoMemory),
     }
+}
+
+/// The word of a kind of fault.
+fn kind_word(kind: Kind) -> &'static str
+    ensures { result.now ≡ kind_word kind }
+{
+    match kind {
+        Kind::Byte => "byte",
+        Kind::LongName => "longname",
+        Kind::NoHeader => "noheader",
+        Kind::AfterConclusion => "afterconclusion",
+        Kind::Keyword => "keyword",
+        Kind::Deep => "deep",
+        Kind::Shape => "shape",
+        Kind::TooMany => "toomany",
+        Kind::NoConclusion => "noconclusion",
+    }
+}
+
+/// The answer to a text that is refused at a line.
+fn refuse_at(alloc: Global, line: u32, kind: &str) -> Result<Reply, NoMemory>
+    ensures { IfOk result (IsReply (refused_at line kind.now)) }
+{
+    refuse(alloc, format!(in alloc; "line {line} {kind}")?.as_bytes())
 }
 
 /// The answer to a text that is refused for this reason.
@@ -72,14 +109,14 @@ fn refuse(alloc: Global, reason: &[u8]) -> Result<Reply, NoMemory>
     })
 }
 
-/// The proof of a plain text, and whether its conclusion's polynomial is zero.
+/// The proof on three free points, and whether their bracket is zero.
 fn decide(alloc: Global, plain: &Plain) -> Result<Reply, NoMemory>
-    requires { All (λ point. point < length plain.now.free) plain.now.three }
-    ensures { IfOk result (IsReply (text_answer (Ok plain.now))) }
+    requires { All (λ point. point < length plain.now.free.items) plain.now.three }
+    ensures { IfOk result (IsReply (points_answer (Ok (points plain.now)))) }
 {
     Ok(Reply {
         status: verdict(plain.three),
-        text: proof_text(alloc, plain)?,
+        text: proof_text(alloc, &plain.free, plain.three)?,
     })
 }
 

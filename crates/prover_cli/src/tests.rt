@@ -40,8 +40,18 @@ fn answer_to(alloc: Global, words: &[&str], input: &[u8]) -> Result<(Status, Vec
 
 #[test]
 fn decides_plain_texts(rt: HostRuntime) -> Result<(), Fail> {
-    let cases: [(&[u8], Status, &[u8]); 4] = [
+    let cases: [(&[u8], Status, &[u8]); 6] = [
         (SMALLEST, Status::Refuted, SMALLEST_PROOF),
+        (
+            b"construction 1\r\nrank 3\r\nfree A B C\r\nconclude collinear A B C\r\n",
+            Status::Refuted,
+            SMALLEST_PROOF,
+        ),
+        (
+            b"# three points\n\nconstruction\t1\nrank 3 # of the plane\nfree A\nfree B C\nconclude collinear A B C",
+            Status::Refuted,
+            SMALLEST_PROOF,
+        ),
         (
             b"construction 1\nrank 3\nfree A B C\nconclude collinear B A C\n",
             Status::Refuted,
@@ -68,51 +78,54 @@ fn decides_plain_texts(rt: HostRuntime) -> Result<(), Fail> {
 
 #[test]
 fn refuses_other_texts(rt: HostRuntime) -> Result<(), Fail> {
-    let cases: [(&[u8], u32); 24] = [
-        (b"", 1),
-        (b"construction 1", 1),
-        (b"construction 2\n", 1),
-        (b" construction 1\n", 1),
-        (b"construction 1\r\nrank 3\r\n", 1),
-        (b"\nconstruction 1\n", 1),
-        (b"construction 1\n", 2),
-        (b"construction 1\nrank 4\n", 2),
-        (b"construction 1\nrank  3\n", 2),
-        (b"construction 1\nrank 3", 2),
-        (b"construction 1\nrank 3\n", 3),
-        (b"construction 1\nrank 3\nfree\n", 3),
-        (b"construction 1\nrank 3\nfree A  B C\n", 3),
-        (b"construction 1\nrank 3\nfree A B A\n", 3),
-        (b"construction 1\nrank 3\nfree A 1 C\n", 3),
-        (b"construction 1\nrank 3\nfree A B\xff C\n", 3),
-        (b"construction 1\nrank 3\nfree A conic C\n", 3),
-        (b"construction 1\nrank 3\nfree A B C # three\n", 3),
-        (b"construction 1\nrank 3\nfree A B C\n", 4),
+    let cases: [(&[u8], &str); 17] = [
+        (b"", "1 noheader"),
+        (b"construction 2\n", "1 noheader"),
+        (b"construction 1\nrank 2\n", "2 noheader"),
+        (b"construction 1\nrank 3\n", "3 noconclusion"),
+        (b"construction 1\nrank 3\nfree A\r\r\n", "3 byte"),
+        (b"construction 1\nrank 3\nfree A B\xff C\n", "3 byte"),
+        (b"construction 1\nrank 3\nwhere A B C\n", "3 keyword"),
+        (b"construction 1\nrank 3\nfree\n", "3 shape"),
+        (b"construction 1\nrank 3\nfree A conic C\n", "3 shape"),
         (
             b"construction 1\nrank 3\nfree A B C\nconclude collinear A B\n",
-            4,
+            "4 shape",
         ),
         (
-            b"construction 1\nrank 3\nfree A B C\nconclude conic A B C\n",
-            4,
+            b"construction 1\nrank 3\nfree A B C\nconclude collinear A B C\nfree D\n",
+            "5 afterconclusion",
+        ),
+        // What the grammar takes and the program does not yet.
+        (
+            b"construction 1\nrank 4\nfree A B C D\nconclude coplanar A B C D\n",
+            "3 later",
         ),
         (
-            b"construction 1\nrank 3\nfree A B\nconclude collinear A B X\n",
-            4,
+            b"construction 1\nrank 3\nfree A B\nline l = join A B\nconclude incident A l\n",
+            "4 later",
         ),
         (
-            b"construction 1\nrank 3\nfree A B C\nconclude collinear A B C",
-            4,
+            b"construction 1\nrank 3\nfree A B\nfree B C\nconclude collinear A B C\n",
+            "4 later",
         ),
         (
-            b"construction 1\nrank 3\nfree A B C\nconclude collinear A B C\n\n",
-            5,
+            b"construction 1\nrank 3\nfree A B C\nconclude collinear A B X\n",
+            "4 later",
+        ),
+        (
+            b"construction 1\nrank 3\nfree A B C\nconclude collinear A B (meet A B)\n",
+            "4 later",
+        ),
+        (
+            b"construction 1\nrank 3\nfree A B C D E F\nconclude conic A B C D E F\n",
+            "4 later",
         ),
     ];
     let alloc = rt.alloc();
-    for (input, line) in cases {
+    for (input, fault) in cases {
         let (status, written) = answer_to(alloc, &["prove"], input)?;
-        let output = format!(in alloc; "refused line {line} later\n")?;
+        let output = format!(in alloc; "refused line {fault}\n")?;
         assert_eq!(rt; status, Status::TextRefused, "at {input:?}");
         assert_eq!(rt; written.as_slice(), output.as_bytes(), "at {input:?}");
     }
@@ -158,7 +171,7 @@ fn keeps_the_limits(rt: HostRuntime) -> Result<(), Fail> {
         );
     }
     for (bytes, output) in [
-        (1_048_576, b"refused line 1 later\n".as_slice()),
+        (1_048_576, b"refused line 2 noheader\n".as_slice()),
         (1_048_577, b"refused long\n".as_slice()),
     ] {
         let text = vec![in alloc; b'#'; bytes]?;

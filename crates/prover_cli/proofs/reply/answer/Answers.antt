@@ -1,7 +1,7 @@
-use Rattle.std.proofs.Common.{◌≡◌, ◌<◌, ℕ, List, length, Err, IfSome, ap, inl, inr, sym, refl}
-use Rattle.construction_reader.specs.declared.plain.TheConstants.{LONGEST}
-use Rattle.prover_cli.specs.Reply.{IsReplyTo}
-use Rattle.prover_cli.proofs.Inputs.{long_input, answer_long}
+use Rattle.std.proofs.Common.{◌<◌, ℕ, List, length, Err, IfSome, ap, inl, inr, refl}
+use Rattle.construction_reader.specs.declared.reading.TheConstants.{LONGEST}
+use Rattle.prover_cli.specs.Answer.{refused}
+use Rattle.prover_cli.proofs.Inputs.{long_input}
 use Rattle.prover_cli.proofs.Outcomes.{refused_is_none}
 use Rattle.prover_cli.proofs.reply.answer.Goals as goal
 
@@ -13,7 +13,9 @@ returns-in-Ok-refuse-clause-reply g c =
     record {
       input = found.0;
       is_input = found.1;
-      reply_is = rw (answer_long found.0 found.2) c.in-Ok-refuse.ensures;
+      answer = refused _;
+      is_answer = inl (found.2, refl);
+      reply_is = c.in-Ok-refuse.ensures;
       status = inr c.in-Ok-refuse.ensures.status;
       decides = λ is_verdict. absurd (refused_is_none _ c.in-Ok-refuse.ensures.status is_verdict);
     }

@@ -1,9 +1,10 @@
 use Rattle.std.proofs.Common.{◌≡◌, ◌∙◌, ℕ, List, true, false, map, refl, inl, inr, sym}
 use Rattle.std.specs.Prelude.{string_bytes}
 use Rattle.prover_cli.specs.declared.status.Status.TheVariants.{Usage}
-use Rattle.prover_cli.specs.Answer.{usage, answer, prove_answer, is_prove}
+use Rattle.prover_cli.specs.Answer.{usage, is_prove}
 use Rattle.prover_cli.specs.Reply.{IsReplyTo}
-use Rattle.prover_cli.proofs.Inputs.{some_input, answer_prove, answer_usage}
+use Rattle.prover_cli.proofs.AnswerLaws.{some_answer}
+use Rattle.prover_cli.proofs.Inputs.{some_input}
 use Rattle.prover_cli.proofs.Outcomes.{writes_put, writes_nothing, verdict_is, usage_is_none, fault_is_none}
 use Rattle.prover_cli.proofs.run.run.Goals as goal
 
@@ -15,8 +16,9 @@ returns-then-not-is_prove-clause-answers g c =
     record {
       input = found.0;
       is_input = found.1;
-      writes = rw (answer_usage words found.0 other)
-          (writes_put usage Usage _ _ _ _ _ _ (inr refl) refl refl c.write.ensures);
+      answer = usage;
+      is_answer = inl (other, refl);
+      writes = writes_put usage Usage _ _ _ _ _ _ (inr refl) refl refl c.write.ensures;
       decides = λ is_verdict. absurd (usage_is_none _ refl (verdict_is _ _ _ _ _ _ _ c.write.ensures is_verdict));
     }
 
@@ -25,21 +27,26 @@ returns-in-Ok-clause-answers g c =
     let words : List (List ℕ) = map string_bytes c.args.words.now in
     let found : IsReplyTo (g.S.Source.left c.args.source.now) c.in-Ok.reply = c.in-Ok.ensures.reply in
     let prove : is_prove words ≡ true = sym c.is_prove.ensures ∙ c.if-not-is_prove.false in
-    let is : answer words found.input ≡ prove_answer found.input = answer_prove words found.input prove in
     record {
       input = found.input;
       is_input = found.is_input;
-      writes = rw is (writes_put (prove_answer found.input) _ _ _ _ _ _ _ (inl found.status) (sym found.reply_is.status)
-          (c.deref.ensures.value ∙ found.reply_is.text) c.write-in-Ok.ensures);
-      decides = λ is_verdict. rw is (found.decides (verdict_is _ _ _ _ _ _ _ c.write-in-Ok.ensures is_verdict));
+      answer = found.answer;
+      is_answer = inr (prove, found.is_answer);
+      writes = writes_put found.answer _ _ _ _ _ _ _ (inl found.status) (sym found.reply_is.status)
+          (c.deref.ensures.value ∙ found.reply_is.text) c.write-in-Ok.ensures;
+      decides = λ is_verdict. found.decides (verdict_is _ _ _ _ _ _ _ c.write-in-Ok.ensures is_verdict);
     }
 
 pub returns-in-Err-clause-answers : goal.returns-in-Err-clause-answers
 returns-in-Err-clause-answers g c =
+    let words : List (List ℕ) = map string_bytes c.args.words.now in
     let found = some_input (g.S.Source.left c.args.source.now) in
+    let some = some_answer words found.0 in
     record {
       input = found.0;
       is_input = found.1;
+      answer = some.0;
+      is_answer = some.1;
       writes = writes_nothing _ _ _ c.in-Err.ensures.err;
       decides = λ is_verdict. absurd (fault_is_none _ c.in-Err.ensures.err is_verdict);
     }
