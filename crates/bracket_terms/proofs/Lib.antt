@@ -1,1 +1,3 @@
 mod SignLaws
+pub mod ExponentLaws
+pub mod ExtensorLaws

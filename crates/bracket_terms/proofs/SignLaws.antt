@@ -4,7 +4,7 @@ use Rattle.std.specs.List.Sorted.{IsStrictlyIncreasing, IsPermutation, IsSorted}
 use Rattle.std.proofs.lemmas.List.Sorted.{IsNonDecreasingBy-from_sort}
 use Rattle.coordinate_model.specs.Sequences.{IsRank, is_odd, repeats}
 use Rattle.coordinate_model.specs.Syzygy.{sorted}
-use Rattle.coordinate_model.specs.Polynomial.{Polynomial, Polynomials, br}
+use Rattle.coordinate_model.specs.Polynomial.{Polynomials, br}
 use Rattle.coordinate_model.proofs.BracketPolynomialLaws.{sorted_bracket_law, repeated_point}
 use Rattle.coordinate_model.proofs.SortedRows.{sorted_increasing}
 use Rattle.coordinate_model.proofs.StdSort.{sorted-is, increasing-no_repeat}

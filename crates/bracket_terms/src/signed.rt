@@ -1,12 +1,12 @@
 //! Sorting the points of a bracket.
 
-ghost use Rattle.std.specs.Prelude.{◌≡◌, ◌≤◌, ◌*◌, ◌↔◌, IsTrue, length};
-ghost use Rattle.std.specs.List.Sorted.{IsStrictlyIncreasing};
-ghost use Rattle.coordinate_model.specs.Sequences.{IsRank, is_odd, inversions, repeats};
+ghost use Rattle.std.specs.Prelude.{◌≡◌, ◌↔◌, IsTrue};
+ghost use Rattle.coordinate_model.specs.Sequences.{IsRank, repeats};
 ghost use Rattle.coordinate_model.specs.Polynomial.{br};
 ghost use Rattle.bracket_terms.specs.Signed.{sorted_with_sign, value_of};
 
 use crate::bracket::Bracket;
+use crate::sequence::{is_increasing, is_odd};
 
 /// A bracket of a sequence of points: zero where a point comes twice, else plus or minus the bracket of its points in
 /// ascending order.
@@ -33,34 +33,5 @@ pub fn sort<const D: usize>(points: [u8; D]) -> Signed<D>
         Signed::Minus(Bracket::of(ascending))
     } else {
         Signed::Plus(Bracket::of(ascending))
-    }
-}
-
-/// Whether the points strictly increase.
-fn is_increasing(points: &[u8]) -> bool
-    ensures { IsTrue result ↔ IsStrictlyIncreasing points.now }
-{
-    points.windows(2).all(|pair| pair[0] < pair[1])
-}
-
-/// Whether the sign of the sequence is -1.
-fn is_odd(points: &[u8]) -> bool
-    requires { length points.now ≤ 4 }
-    ensures { result ≡ is_odd points.now }
-{
-    inversions(points) % 2 == 1
-}
-
-/// How many pairs of an entry and a lesser one after it there are.
-fn inversions(points: &[u8]) -> usize
-    requires { length points.now ≤ 4 }
-    ensures count { result ≡ inversions points.now }
-    ensures few { result ≤ 4 * length points.now }
-{
-    match points {
-        [] => 0,
-        [first, rest @ ..] => {
-            rest.iter().filter(|later| *later < first).count() + inversions(rest)
-        }
     }
 }

@@ -1,5 +1,5 @@
-use Rattle.std.proofs.Common.{◌≡◌, ℕ, true, false, List, length, sym, ◌∙◌, refl, rules, true≢false}
-use Rattle.coordinate_model.specs.Sequences.{IsRank, is_odd, repeats}
+use Rattle.std.proofs.Common.{◌≡◌, ℕ, false, List, length, sym, ◌∙◌, refl, rules, true≢false}
+use Rattle.coordinate_model.specs.Sequences.{IsRank, repeats}
 use Rattle.coordinate_model.specs.Syzygy.{sorted}
 use Rattle.bracket_terms.specs.Signed.{sorted_with_sign}
 use Rattle.bracket_terms.specs.declared.signed.Signed.{Signed}
