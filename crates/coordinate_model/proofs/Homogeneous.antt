@@ -33,7 +33,7 @@ times-points : (i : ℕ) (r : List ℕ) (rows : List (List ℕ))
     → times_in i (points (r ∷ rows)) ≡ times_in i r + times_in i (points rows)
 times-points i r rows = many-append (λ p. i == p) r (points rows)
 
-times-append : (i : ℕ) (rows more : List (List ℕ))
+pub times-append : (i : ℕ) (rows more : List (List ℕ))
     → times_in i (points (rows ++ more)) ≡ times_in i (points rows) + times_in i (points more)
 times-append i [] more = omega arith
 times-append i (r ∷ rows) more =
@@ -59,7 +59,7 @@ times-place i r (s ∷ rows) = step (is_gt (row_cmp r s)) (times-place i r rows)
         omega arith
     step false e = times-points i r (s ∷ rows)
 
-times-ordered : (i : ℕ) (rows : List (List ℕ)) → times_in i (points (ordered row_cmp rows)) ≡ times_in i (points rows)
+pub times-ordered : (i : ℕ) (rows : List (List ℕ)) → times_in i (points (ordered row_cmp rows)) ≡ times_in i (points rows)
 times-ordered i [] = refl
 times-ordered i (r ∷ rows) =
     times-place i r (ordered row_cmp rows) ∙ ap (λ n. times_in i r + n) (times-ordered i rows)

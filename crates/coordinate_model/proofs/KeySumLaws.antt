@@ -21,7 +21,7 @@ use Rattle.coordinate_model.proofs.SumRing.{plus_assoc, plus_comm, plus_empty, p
 use Rattle.coordinate_model.proofs.SumRing.{times_plus, sum_of-terms, sum_of-append, sum_of-products}
 use Rattle.coordinate_model.proofs.KeyProducts.{key_total, key_same}
 
-row_same : IsAntisymmetric row_cmp
+pub row_same : IsAntisymmetric row_cmp
 row_same = slice_cmp-IsAntisymmetric nat_cmp-IsAntisymmetric
 
 exponents_assoc : (d e f : List ℕ) → add_exponents (add_exponents d e) f ≡ add_exponents d (add_exponents e f)
@@ -94,7 +94,7 @@ sorted_tail x w s k d z l =
     ap (λ n. is_lt (row_cmp (get_or (x ∷ w) n d) (get_or w k d))) (sym (suc-add k 1))
     ∙ s (suc k) d (omega arith) (omega arith)
 
-sorted_ascending : (w : List (List ℕ)) → IsSorted row_cmp w → IsAscending nat_list_cmp_total w
+pub sorted_ascending : (w : List (List ℕ)) → IsSorted row_cmp w → IsAscending nat_list_cmp_total w
 sorted_ascending [] s = tt
 sorted_ascending (x ∷ []) s = (tt, tt)
 sorted_ascending (x ∷ y ∷ w) s =

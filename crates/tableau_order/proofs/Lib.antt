@@ -1,0 +1,4 @@
+pub mod SortedRows
+pub mod Columns
+pub mod Splits
+pub mod MergedRows

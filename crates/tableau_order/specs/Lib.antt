@@ -1,0 +1,4 @@
+pub mod Tableaux
+pub mod Standard
+pub mod Violations
+pub mod Merged
