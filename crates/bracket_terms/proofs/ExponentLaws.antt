@@ -1,5 +1,6 @@
 -- Sums of exponents, one place at a time.
-use Rattle.std.proofs.Common.{◌≡◌, ℕ, zero, suc, Bool, true, false, ◌+◌, ◌<◌, ◌≤◌, List, [], ◌∷◌, length, get_or, take, set, refl, sym, ap, arith}
+use Rattle.std.proofs.Common.{◌≡◌, ℕ, zero, suc, Bool, true, false, ◌+◌, ◌<◌, ◌≤◌, List, [], ◌∷◌, length, get_or}
+use Rattle.std.proofs.Common.{take, set, refl, sym, ap, arith}
 use Rattle.std.proofs.lemmas.Bool.{leb-true}
 use Rattle.std.specs.Prelude.{T, nat_le}
 use Rattle.std.specs.List.{AllByRecursion, list_all}
@@ -37,7 +38,8 @@ pub add_exponents-step : (e f : List ℕ) (i : ℕ) → i < length e → i < len
 add_exponents-step [] f i h k = absurd (omega arith)
 add_exponents-step (x ∷ e) [] i h k = absurd (omega arith)
 add_exponents-step (x ∷ e) (y ∷ f) zero h k = ap (λ r. (x + y) ∷ r) (sym (add_exponents-nothing e))
-add_exponents-step (x ∷ e) (y ∷ f) (suc i) h k = ap (λ r. (x + y) ∷ r) (add_exponents-step e f i (omega arith) (omega arith))
+add_exponents-step (x ∷ e) (y ∷ f) (suc i) h k =
+    ap (λ r. (x + y) ∷ r) (add_exponents-step e f i (omega arith) (omega arith))
 
 -- what holds of each exponent holds at a place
 pub all_at : (P : ℕ → Type 0) (e : List ℕ) → AllByRecursion P e → (i : ℕ) → i < length e → P (get_or e i 0)
@@ -49,7 +51,8 @@ all_at P (x ∷ e) h (suc i) l = all_at P e h.1 i (omega arith)
 pub all_up_to : (n : ℕ) (e : List ℕ) → T (list_all (λ x. nat_le x n) e) → AllByRecursion (λ x. x ≤ n) e
 all_up_to n [] h = tt
 all_up_to n (x ∷ e) h =
-    (leb-true x n (true_of (nat_le x n) (first (nat_le x n) (list_all (λ y. nat_le y n) e) h)), all_up_to n e (second (nat_le x n) (list_all (λ y. nat_le y n) e) h))
+    let rest : Bool = list_all (λ y. nat_le y n) e in
+    (leb-true x n (true_of (nat_le x n) (first (nat_le x n) rest h)), all_up_to n e (second (nat_le x n) rest h))
   where
     true_of : (b : Bool) → T b → b ≡ true
     true_of true t = refl

@@ -1,6 +1,8 @@
 -- The coordinates of the join of two extensors, from the points of both.
-use Rattle.std.proofs.Common.{◌≡◌, ℕ, zero, suc, ◌+◌, ◌<◌, ◌≤◌, Bool, true, false, not, cond, ◌&&◌, ◌||◌, ◌==◌, T, ℤ, pos, negsuc}
-use Rattle.std.proofs.Common.{List, [], ◌∷◌, ◌++◌, map, length, get_or, refl, sym, ap, subst, ◌∙◌, arith, take, append-nil, true≢false, eqb-true, length-append, All}
+use Rattle.std.proofs.Common.{◌≡◌, ℕ, zero, suc, ◌+◌, ◌<◌, ◌≤◌, Bool, true, false, not, cond, ◌&&◌, ◌||◌, ◌==◌, T}
+use Rattle.std.proofs.Common.{ℤ, pos, negsuc}
+use Rattle.std.proofs.Common.{List, [], ◌∷◌, ◌++◌, map, length, get_or, refl, sym, ap, subst, ◌∙◌, arith, take}
+use Rattle.std.proofs.Common.{append-nil, true≢false, eqb-true, length-append, All}
 use Rattle.std.specs.List.{list_all}
 use Rattle.std.proofs.Math.Seq.{take-append_seam}
 use Rattle.std.proofs.lemmas.List.{length-take-le}
@@ -18,7 +20,8 @@ use Rattle.bracket_terms.specs.Joins.{sign_of, by_sign, share_point}
 
 -- ---- the sets of columns
 
-all_pass : {A : Type 0} (p : A → Bool) (xs : List A) → T (list_all p xs) → (k : ℕ) (x : A) → k < length xs → T (p (get_or xs k x))
+all_pass : {A : Type 0} (p : A → Bool) (xs : List A) → T (list_all p xs) → (k : ℕ) (x : A) → k < length xs
+    → T (p (get_or xs k x))
 all_pass p [] h k x l = absurd (omega arith)
 all_pass p (y ∷ ys) h zero x l = first (p y) (list_all p ys) h
 all_pass p (y ∷ ys) h (suc k) x l = all_pass p ys (second (p y) (list_all p ys) h) k x (omega arith)
@@ -55,7 +58,8 @@ record IsSet (n : ℕ) (K : List ℕ) : Type 0 where
   even : is_odd K ≡ false
   count : length K ≡ n
 
-set_at : (d n : ℕ) → IsRank d → n ≤ d → (k : ℕ) (x : List ℕ) → k < length (subsets d n) → IsSet n (get_or (subsets d n) k x)
+set_at : (d n : ℕ) → IsRank d → n ≤ d → (k : ℕ) (x : List ℕ) → k < length (subsets d n)
+    → IsSet n (get_or (subsets d n) k x)
 set_at d n r h k x l =
     let K : List ℕ = get_or (subsets d n) k x in
     let t : T (is_set n K) = all_pass (is_set n) (subsets d n) (sets_pass d n r.0 r.1 h) k x l in
@@ -93,7 +97,10 @@ join_with_nothing : (A : Coords Polynomials) (K : List ℕ) → is_odd K ≡ fal
     → join Polynomials (length K) A (extensor Polynomials []) K ≡ A K
 unfolding join extensor
 join_with_nothing A K e =
-    ap (sum_over Polynomials (λ s. signed Polynomials (s.0 ++ s.1) (Polynomials.◌⊗◌ (A s.0) (extensor Polynomials [] s.1)))) (splits-all K)
+    ap
+    (sum_over Polynomials
+    (λ s. signed Polynomials (s.0 ++ s.1) (Polynomials.◌⊗◌ (A s.0) (extensor Polynomials [] s.1))))
+    (splits-all K)
     ∙ polynomial_ring.add_zero _ ∙ even_sign (K ++ []) _ (ap is_odd (append-nil K) ∙ e) ∙ polynomial_ring.mul_one (A K)
 
 length-points : (us : List ℕ) → length (map free_point us) ≡ length us
@@ -107,29 +114,33 @@ map-points (u ∷ us) vs = ap (λ ps. free_point u ∷ ps) (map-points us vs)
 abbrev free_extensor : List ℕ → Coords Polynomials
 free_extensor us = extensor Polynomials (map free_point us)
 
+-- in rank d, f has the coordinates of the join of the extensors of us and vs, which have m and n points
+abbrev HasJoin : (d m n : ℕ) (us vs : List ℕ) (f : Coords Polynomials) → Type 0
+HasJoin d m n us vs f =
+    All (λ K. f K ≡ join Polynomials m (free_extensor us) (free_extensor vs) K) (subsets d (m + n))
+
+-- the law of joins, in the words of its own lengths
+abbrev LawAt : (d m n : ℕ) (us vs : List ℕ) (ps : List (Point Polynomials)) → Type 0
+LawAt d m n us vs ps =
+    All (λ K. join Polynomials m (free_extensor us) (free_extensor vs) K ≡ extensor Polynomials ps K)
+    (subsets d (m + n))
+
 joined_both : (d : ℕ) (us vs : List ℕ) → IsRank d → 1 ≤ length us → 1 ≤ length vs → length us + length vs ≤ d
-    → All (λ K. join Polynomials (length us) (free_extensor us) (free_extensor vs) K ≡ free_extensor (us ++ vs) K)
-    (subsets d (length us + length vs))
+    → LawAt d (length us) (length vs) us vs (map free_point (us ++ vs))
 joined_both d us vs r a b h =
     let m : length (map free_point us) ≡ length us = length-points us in
     let n : length (map free_point vs) ≡ length vs = length-points vs in
+    let both : List (Point Polynomials) = map free_point us ++ map free_point vs in
     let sizes : AreJoined d (map free_point us) (map free_point vs) =
     record { rank = r; first = omega arith; second = omega arith; few = omega arith } in
-    subst
-    (λ (ps : List (Point Polynomials)). All (λ K. join Polynomials (length us) (free_extensor us) (free_extensor vs) K ≡ extensor Polynomials ps K) (subsets d (length us + length vs)))
-    (sym (map-points us vs))
-    (subst
-    (λ (i : ℕ). All (λ K. join Polynomials i (free_extensor us) (free_extensor vs) K ≡ extensor Polynomials (map free_point us ++ map free_point vs) K) (subsets d (i + length vs)))
-    m
-    (subst
-    (λ (j : ℕ). All (λ K. join Polynomials (length (map free_point us)) (free_extensor us) (free_extensor vs) K ≡ extensor Polynomials (map free_point us ++ map free_point vs) K) (subsets d (length (map free_point us) + j)))
-    n
+    subst (λ (ps : List (Point Polynomials)). LawAt d (length us) (length vs) us vs ps) (sym (map-points us vs))
+    (subst (λ (i : ℕ). LawAt d i (length vs) us vs both) m
+    (subst (λ (j : ℕ). LawAt d (length (map free_point us)) j us vs both) n
     (join-law polynomial_ring d (map free_point us) (map free_point vs) sizes)))
 
 -- the join of the extensors of any two lists of points, no points included
 joined_points : (d : ℕ) (us vs : List ℕ) → IsRank d → length us + length vs ≤ d
-    → All (λ K. join Polynomials (length us) (free_extensor us) (free_extensor vs) K ≡ free_extensor (us ++ vs) K)
-    (subsets d (length us + length vs))
+    → LawAt d (length us) (length vs) us vs (map free_point (us ++ vs))
 joined_points d [] vs r h k x l = join_nothing vs _ (set_at d (0 + length vs) r h k x l).even
 joined_points d (u ∷ us) [] r h k x l =
     let K : List ℕ = get_or (subsets d (length (u ∷ us) + 0)) k x in
@@ -166,26 +177,32 @@ repeats-append (u ∷ us) vs h k =
 
 by_sign-is : (ps : List ℕ) (f : Polynomial) → by_sign (sign_of ps) f ≡ signed Polynomials ps f
 by_sign-is ps f =
-    elim (is_odd ps) as (λ b. by_sign (cond b (negsuc 0) (pos 1)) f ≡ cond b (Polynomials.neg f) f) [ true ↦ refl | false ↦ refl ]
+    elim (is_odd ps) as (λ b. by_sign (cond b (negsuc 0) (pos 1)) f ≡ cond b (Polynomials.neg f) f) [
+      | true ↦ refl
+      | false ↦ refl
+    ]
 
--- the sorted points with their sign have the coordinates of the join
-pub joined_coordinates : (d : ℕ) (us vs : List ℕ) → IsRank d → length us + length vs ≤ d
-    → All (λ K. by_sign (sign_of (us ++ vs)) (free_extensor (sorted (us ++ vs)) K)
-    ≡ join Polynomials (length us) (free_extensor us) (free_extensor vs) K)
-    (subsets d (length us + length vs))
+-- the coordinates of the sorted points with their sign
+abbrev sorted_coordinates : List ℕ → Coords Polynomials
+sorted_coordinates ps K = by_sign (sign_of ps) (free_extensor (sorted ps) K)
+
+-- they are those of the join
+joined_coordinates : (d : ℕ) (us vs : List ℕ) → IsRank d → length us + length vs ≤ d
+    → HasJoin d (length us) (length vs) us vs (sorted_coordinates (us ++ vs))
 joined_coordinates d us vs r h k x l =
     let ps : List ℕ = us ++ vs in
     let K : List ℕ = get_or (subsets d (length us + length vs)) k x in
     let n : length ps ≡ length us + length vs = length-append us vs in
-    let lawful : All (λ K. free_extensor ps K ≡ signed Polynomials ps (free_extensor (sorted ps) K)) (subsets d (length us + length vs)) =
-    subst (λ (m : ℕ). All (λ K. free_extensor ps K ≡ signed Polynomials ps (free_extensor (sorted ps) K)) (subsets d m)) n
+    let lawful : All (λ K. free_extensor ps K ≡ signed Polynomials ps (free_extensor (sorted ps) K))
+    (subsets d (length us + length vs)) =
+    subst
+    (λ (m : ℕ). All (λ K. free_extensor ps K ≡ signed Polynomials ps (free_extensor (sorted ps) K)) (subsets d m)) n
     (extensor-sorted Polynomials polynomial_ring free_point d ps r (omega arith)) in
     by_sign-is ps (free_extensor (sorted ps) K) ∙ sym (lawful k x l) ∙ sym (joined_points d us vs r h k x l)
 
 -- and they are zero where a point comes twice
-pub zero_coordinates : (d : ℕ) (us vs : List ℕ) → IsRank d → length us + length vs ≤ d → repeats (us ++ vs) ≡ true
-    → All (λ K. Polynomials.𝟘 ≡ join Polynomials (length us) (free_extensor us) (free_extensor vs) K)
-    (subsets d (length us + length vs))
+zero_coordinates : (d : ℕ) (us vs : List ℕ) → IsRank d → length us + length vs ≤ d → repeats (us ++ vs) ≡ true
+    → HasJoin d (length us) (length vs) us vs (λ K. Polynomials.𝟘)
 zero_coordinates d us vs r h t k x l =
     let ps : List ℕ = us ++ vs in
     let n : length ps ≡ length us + length vs = length-append us vs in
@@ -194,31 +211,27 @@ zero_coordinates d us vs r h t k x l =
     (extensor-repeats Polynomials polynomial_ring free_point d ps r (omega arith) t) in
     sym (lawful k x l) ∙ sym (joined_points d us vs r h k x l)
 
+-- what holds at the lengths of the lists holds at numbers that are these lengths
+at_sizes : (d m n : ℕ) (us vs : List ℕ) (f : Coords Polynomials) → length us ≡ m → length vs ≡ n
+    → HasJoin d (length us) (length vs) us vs f → HasJoin d m n us vs f
+at_sizes d m n us vs f e g h =
+    subst (λ (i : ℕ). HasJoin d i n us vs f) e (subst (λ (j : ℕ). HasJoin d (length us) j us vs f) g h)
+
 -- the same in the words of the answer
 pub some_coordinates : (d m n : ℕ) (us vs : List ℕ) → length us ≡ m → length vs ≡ n → (s : ℤ) (ps : List ℕ)
     → s ≡ sign_of (us ++ vs) → ps ≡ sorted (us ++ vs) → IsRank d → m + n ≤ d
-    → All (λ K. by_sign s (free_extensor ps K) ≡ join Polynomials m (free_extensor us) (free_extensor vs) K) (subsets d (m + n))
+    → All (λ K. by_sign s (free_extensor ps K) ≡ join Polynomials m (free_extensor us) (free_extensor vs) K)
+    (subsets d (m + n))
 some_coordinates d m n us vs e f s ps g h r few =
-    subst
-    (λ (i : ℕ). All (λ K. by_sign s (free_extensor ps K) ≡ join Polynomials i (free_extensor us) (free_extensor vs) K) (subsets d (i + n)))
-    e
-    (subst
-    (λ (j : ℕ). All (λ K. by_sign s (free_extensor ps K) ≡ join Polynomials (length us) (free_extensor us) (free_extensor vs) K) (subsets d (length us + j)))
-    f
-    (subst
-    (λ (z : ℤ). All (λ K. by_sign z (free_extensor ps K) ≡ join Polynomials (length us) (free_extensor us) (free_extensor vs) K) (subsets d (length us + length vs)))
-    (sym g)
-    (subst
-    (λ (qs : List ℕ). All (λ K. by_sign (sign_of (us ++ vs)) (free_extensor qs K) ≡ join Polynomials (length us) (free_extensor us) (free_extensor vs) K) (subsets d (length us + length vs)))
-    (sym h) (joined_coordinates d us vs r (omega arith)))))
+    subst (λ (z : ℤ). HasJoin d m n us vs (λ K. by_sign z (free_extensor ps K))) (sym g)
+    (subst (λ (qs : List ℕ). HasJoin d m n us vs (λ K. by_sign (sign_of (us ++ vs)) (free_extensor qs K))) (sym h)
+    (at_sizes d m n us vs (sorted_coordinates (us ++ vs)) e f (joined_coordinates d us vs r (omega arith))))
 
 pub none_coordinates : (d m n : ℕ) (us vs : List ℕ) → length us ≡ m → length vs ≡ n → repeats (us ++ vs) ≡ true
     → IsRank d → m + n ≤ d
     → All (λ K. Polynomials.𝟘 ≡ join Polynomials m (free_extensor us) (free_extensor vs) K) (subsets d (m + n))
 none_coordinates d m n us vs e f t r few =
-    subst (λ (i : ℕ). All (λ K. Polynomials.𝟘 ≡ join Polynomials i (free_extensor us) (free_extensor vs) K) (subsets d (i + n))) e
-    (subst (λ (j : ℕ). All (λ K. Polynomials.𝟘 ≡ join Polynomials (length us) (free_extensor us) (free_extensor vs) K) (subsets d (length us + j))) f
-    (zero_coordinates d us vs r (omega arith) t))
+    at_sizes d m n us vs (λ K. Polynomials.𝟘) e f (zero_coordinates d us vs r (omega arith) t)
 
 -- ---- what the code does
 

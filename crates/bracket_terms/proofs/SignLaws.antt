@@ -1,5 +1,6 @@
 -- When the sorted bracket of a sequence is zero, and what it is worth.
-use Rattle.std.proofs.Common.{◌≡◌, ℕ, ◌↔◌, Bool, true, false, if◌then◌else◌, List, length, IsTrue, refl, sym, ap, ◌∙◌, nat_cmp, true≢false}
+use Rattle.std.proofs.Common.{◌≡◌, ℕ, ◌↔◌, Bool, true, false, if◌then◌else◌, List, length, IsTrue, refl, sym, ap}
+use Rattle.std.proofs.Common.{◌∙◌, nat_cmp, true≢false}
 use Rattle.std.specs.List.Sorted.{IsStrictlyIncreasing, IsPermutation, IsSorted}
 use Rattle.std.proofs.lemmas.List.Sorted.{IsNonDecreasingBy-from_sort}
 use Rattle.coordinate_model.specs.Sequences.{IsRank, is_odd, repeats}
@@ -28,8 +29,8 @@ repeats_where ps qs e not = split (repeats ps) refl
 pub repeats_nowhere : (ps qs : List ℕ) → qs ≡ sorted ps → IsStrictlyIncreasing qs → repeats ps ≡ false
 repeats_nowhere ps qs e increasing = increasing-no_repeat ps (rw e at increasing)
 
-zero_choice : {d : ℕ} (b odd : Bool) (s : List ℕ) (r : Signed d) → r ≡ (if b then Zero else if odd then Minus s else Plus s)
-    → (r ≡ Zero) ↔ IsTrue b
+zero_choice : {d : ℕ} (b odd : Bool) (s : List ℕ) (r : Signed d)
+    → r ≡ (if b then Zero else if odd then Minus s else Plus s) → (r ≡ Zero) ↔ IsTrue b
 zero_choice true odd s r e = (λ _. refl, λ _. e)
 zero_choice false true s r e = (λ z. absurd (cc), λ h. absurd (true≢false (sym h)))
 zero_choice false false s r e = (λ z. absurd (cc), λ h. absurd (true≢false (sym h)))
@@ -39,7 +40,8 @@ pub zero_where : {d : ℕ} (ps : List ℕ) (r : Signed d) → r ≡ sorted_with_
 zero_where ps r e = zero_choice (repeats ps) (is_odd ps) (sorted ps) r e
 
 value_choice : {d : ℕ} (ps : List ℕ) → IsRank (length ps) → (b odd : Bool) → repeats ps ≡ b → is_odd ps ≡ odd
-    → (r : Signed d) → r ≡ (if b then Zero else if odd then Minus (sorted ps) else Plus (sorted ps)) → value_of r ≡ br ps
+    → (r : Signed d) → r ≡ (if b then Zero else if odd then Minus (sorted ps) else Plus (sorted ps))
+    → value_of r ≡ br ps
 value_choice ps rank true odd h o r e = ap value_of e ∙ sym (repeated_point ps rank h)
 value_choice ps rank false true h o r e =
     ap value_of e
@@ -49,13 +51,16 @@ value_choice ps rank false false h o r e =
     ∙ sym (sorted_bracket_law ps rank ∙ ap (λ b. if b then Polynomials.neg (br (sorted ps)) else br (sorted ps)) o)
 
 -- the sorted bracket is worth the bracket of the sequence
-pub value_where : {d : ℕ} (ps : List ℕ) → IsRank (length ps) → (r : Signed d) → r ≡ sorted_with_sign ps → value_of r ≡ br ps
+pub value_where : {d : ℕ} (ps : List ℕ) → IsRank (length ps) → (r : Signed d) → r ≡ sorted_with_sign ps
+    → value_of r ≡ br ps
 value_where ps rank r e = value_choice ps rank (repeats ps) (is_odd ps) refl refl r e
 
 -- which case it is
 pub case_zero : {d : ℕ} (ps : List ℕ) → repeats ps ≡ true → ◌≡◌ {A = Signed d} Zero (sorted_with_sign ps)
 case_zero {d} ps twice =
-    sym (ap (λ b. let r : Signed d = if b then Zero else if is_odd ps then Minus (sorted ps) else Plus (sorted ps) in r) twice)
+    sym
+    (ap (λ b. let r : Signed d = if b then Zero else if is_odd ps then Minus (sorted ps) else Plus (sorted ps) in r)
+    twice)
 
 pub case_odd : {d : ℕ} (ps qs : List ℕ) → qs ≡ sorted ps → repeats ps ≡ false → is_odd ps ≡ true
     → ◌≡◌ {A = Signed d} (Minus qs) (sorted_with_sign ps)

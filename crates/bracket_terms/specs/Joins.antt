@@ -1,5 +1,6 @@
 -- Joins of extensors of free points, with their signs and coordinates.
-use Rattle.std.specs.Prelude.{◌≡◌, ℕ, ◌+◌, if◌then◌else◌, Bool, Option, Some, None, ℤ, pos, negsuc, List, map, take, length, All}
+use Rattle.std.specs.Prelude.{◌≡◌, ℕ, ◌+◌, if◌then◌else◌, Bool, Option, Some, None, ℤ, pos, negsuc, List, map, take}
+use Rattle.std.specs.Prelude.{length, All}
 use Rattle.std.specs.List.{list_any}
 use Rattle.coordinate_model.specs.Sequences.{has, is_odd, subsets}
 use Rattle.coordinate_model.specs.Brackets.{Coords, extensor, join}

@@ -8,7 +8,8 @@ use Rattle.bracket_terms.specs.declared.signed.Signed.TheVariants.{Zero, Plus, M
 
 -- the points in ascending order with the sign of the sequence, or zero where a point comes twice
 abbrev pub sorted_with_sign : {d : ℕ} → List ℕ → Signed d
-sorted_with_sign points = if repeats points then Zero else if is_odd points then Minus (sorted points) else Plus (sorted points)
+sorted_with_sign points =
+    if repeats points then Zero else if is_odd points then Minus (sorted points) else Plus (sorted points)
 
 -- the coordinate polynomial: zero, or the sign times the bracket
 abbrev pub value_of : {d : ℕ} → Signed d → Polynomial

@@ -27,5 +27,11 @@ row-prop d r = hlevel (ℕ_set, le_prop)
 -- a use is well formed in one way at most
 pub IsLogUse-prop : (d : ℕ) (u : Use) → IsProp (IsLogUse d u)
 IsLogUse-prop d u =
-    hlevel
-    (ℕ_set, ℤ_set, Bool-set, le_prop, AllByRecursion-prop (λ e. e ≤ 1000) (λ e. le_prop) u.exponents, AllByRecursion-prop (IsRow d) (row-prop d) u.rest)
+    hlevel (
+      ℕ_set,
+      ℤ_set,
+      Bool-set,
+      le_prop,
+      AllByRecursion-prop (λ e. e ≤ 1000) (λ e. le_prop) u.exponents,
+      AllByRecursion-prop (IsRow d) (row-prop d) u.rest,
+    )

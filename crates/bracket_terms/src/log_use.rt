@@ -5,8 +5,8 @@ use crate::bracket::Bracket;
 use crate::items::Items;
 use crate::params::Params;
 
-/// One multiple of a van der Waerden syzygy: that of `alpha`, `beta` and `gamma` times the rest rows, the parameters and
-/// the multiplier. In rank `D`, `beta` has D + 1 points, and `alpha` and `gamma` have D - 1 together (Sturmfels,
+/// One multiple of a van der Waerden syzygy: that of `alpha`, `beta` and `gamma` times the rest rows, the parameters
+/// and the multiplier. In rank `D`, `beta` has D + 1 points, and `alpha` and `gamma` have D - 1 together (Sturmfels,
 /// Algorithms in Invariant Theory, section 3.1).
 #[derive(Drop)]
 pub struct LogUse<const D: usize> {

@@ -12,7 +12,8 @@ use Rattle.coordinate_model.specs.Key.{IsRow, row_cmp, column, HasRisingColumns}
 use Rattle.tableau_order.specs.Standard.{IsStandard, Rises, IsFirstFall, IsFirstViolation, row_at}
 
 -- a point of a column is a point of its row
-pub column_at : (j : ℕ) (rows : List (List ℕ)) (i x : ℕ) → i < length rows → get_or (column j rows) i x ≡ slice_index (row_at rows i) j
+pub column_at : (j : ℕ) (rows : List (List ℕ)) (i x : ℕ) → i < length rows
+    → get_or (column j rows) i x ≡ slice_index (row_at rows i) j
 column_at j rows i x h = get_or-map (λ r. slice_index r j) rows i [] x h
 
 -- no column falls from a row to the next
@@ -25,7 +26,8 @@ rising_columns d rows h j l =
     (λ k x m.
     let n : length (column j rows) ≡ length rows = length-map rows (λ r. slice_index r j) in
     let a : get_or (column j rows) k x ≡ slice_index (row_at rows k) j = column_at j rows k x (omega arith) in
-    let b : get_or (column j rows) (k + 1) x ≡ slice_index (row_at rows (k + 1)) j = column_at j rows (k + 1) x (omega arith) in
+    let b : get_or (column j rows) (k + 1) x ≡ slice_index (row_at rows (k + 1)) j =
+    column_at j rows (k + 1) x (omega arith) in
     let c : slice_index (row_at rows k) j ≤ slice_index (row_at rows (k + 1)) j = h k (omega arith) j l in
     omega arith)
 
@@ -67,7 +69,8 @@ pub record StepsUp (d : ℕ) (list : List (List ℕ)) (i : ℕ) : Type 0 where
   pub rises : Rises d (row_at list i) (row_at list (i + 1))
 
 -- where no neighbours fall the list is standard
-pub steps_standard : (d : ℕ) (rows : List (List ℕ)) → ((i : ℕ) → i + 1 < length rows → StepsUp d rows i) → IsStandard d rows
+pub steps_standard : (d : ℕ) (rows : List (List ℕ)) → ((i : ℕ) → i + 1 < length rows → StepsUp d rows i)
+    → IsStandard d rows
 steps_standard d rows h = record {
   ascending = rows_ascend d rows (λ i l. (h i l).rows) (λ i l. (h i l).rises);
   columns = rising_columns d rows (λ i l. (h i l).rises);
@@ -82,7 +85,8 @@ falls_not_standard d rows i j v s =
     let rises : get_or (column j rows) i 0 ≤ get_or (column j rows) (i + 1) 0 =
     s.columns j v.fall.within i (i + 1) 0 (omega arith) (omega arith) in
     let a : get_or (column j rows) i 0 ≡ slice_index (row_at rows i) j = column_at j rows i 0 (omega arith) in
-    let b : get_or (column j rows) (i + 1) 0 ≡ slice_index (row_at rows (i + 1)) j = column_at j rows (i + 1) 0 within in
+    let b : get_or (column j rows) (i + 1) 0 ≡ slice_index (row_at rows (i + 1)) j =
+    column_at j rows (i + 1) 0 within in
     omega arith
 
 -- the row before the place n is the first that falls

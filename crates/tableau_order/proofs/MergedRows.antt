@@ -65,10 +65,12 @@ module _ {A : Type 0} (R : A → A → Ordering) (o : IsTotalOrder R) (same : Is
   length-ordered [] = refl
   length-ordered (x ∷ xs) = length-place x (ordered R xs) ∙ ap suc (length-ordered xs)
 
-  same_length : (rs xs ys : List A) → length xs ≡ length ys → length (ordered R (rs ++ xs)) ≡ length (ordered R (rs ++ ys))
+  same_length : (rs xs ys : List A) → length xs ≡ length ys
+      → length (ordered R (rs ++ xs)) ≡ length (ordered R (rs ++ ys))
   same_length [] xs ys e = length-ordered xs ∙ e ∙ sym (length-ordered ys)
   same_length (r ∷ rs) xs ys e =
-      length-place r (ordered R (rs ++ xs)) ∙ ap suc (same_length rs xs ys e) ∙ sym (length-place r (ordered R (rs ++ ys)))
+      length-place r (ordered R (rs ++ xs)) ∙ ap suc (same_length rs xs ys e)
+      ∙ sym (length-place r (ordered R (rs ++ ys)))
 
   keeps : (rs xs ys : List A) → length xs ≡ length ys
       → slice_cmp R (ordered R (rs ++ xs)) (ordered R (rs ++ ys)) ≡ slice_cmp R (ordered R xs) (ordered R ys)

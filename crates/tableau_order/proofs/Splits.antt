@@ -1,6 +1,8 @@
 -- The points of two rows at the first column where they fall.
-use Rattle.std.proofs.Common.{◌≡◌, ℕ, zero, suc, ◌+◌, ◌<◌, ◌≤◌, true, false, List, [], ◌∷◌, ◌++◌, length, slice_index, take, drop}
-use Rattle.std.proofs.Common.{refl, sym, ap, ◌∙◌, arith, true≢false, Ordering, Less, Equal, Greater, is_gt, is_lt, nat_cmp, length-append, length-drop, add-one}
+use Rattle.std.proofs.Common.{◌≡◌, ℕ, zero, suc, ◌+◌, ◌<◌, ◌≤◌, true, false, List, [], ◌∷◌, ◌++◌, length}
+use Rattle.std.proofs.Common.{slice_index, take, drop}
+use Rattle.std.proofs.Common.{refl, sym, ap, ◌∙◌, arith, true≢false, Ordering, Less, Equal, Greater, is_gt, is_lt}
+use Rattle.std.proofs.Common.{nat_cmp, length-append, length-drop, add-one}
 use Rattle.std.proofs.lemmas.Bool.{lt-ltb}
 use Rattle.std.proofs.lemmas.List.{take-append-drop, length-take-le}
 use Rattle.std.proofs.Math.Seq.{drop-append_seam, take-append_seam}
@@ -74,7 +76,9 @@ splits_at_fall d j low high rank low_is high_is g f =
           (rw add-one (beta_increases j low high (omega arith) (omega arith) (increasing_all low low_is.1)
           (increasing_all high high_is.1) f.falls));
       low_row =
-          sym (ap (λ w. take j low ++ w) (drop-front (j + 1) (take (j + 1) high) (drop j low) front) ∙ take-append-drop j low);
+          sym
+          (ap (λ w. take j low ++ w) (drop-front (j + 1) (take (j + 1) high) (drop j low) front)
+          ∙ take-append-drop j low);
       high_row =
           sym (ap (λ w. w ++ drop (j + 1) high) (take-front (j + 1) (take (j + 1) high) (drop j low) front)
           ∙ take-append-drop (j + 1) high);
@@ -82,7 +86,8 @@ splits_at_fall d j low high rank low_is high_is g f =
 
 -- ---- in a tableau
 
-row_of : (d : ℕ) (rows : List (List ℕ)) → AllByRecursion (IsRow d) rows → (i : ℕ) → i < length rows → IsRow d (row_at rows i)
+row_of : (d : ℕ) (rows : List (List ℕ)) → AllByRecursion (IsRow d) rows → (i : ℕ) → i < length rows
+    → IsRow d (row_at rows i)
 row_of d [] h i l = absurd (omega arith)
 row_of d (r ∷ rows) h zero l = h.0
 row_of d (r ∷ rows) h (suc i) l = row_of d rows h.1 i (omega arith)

@@ -22,7 +22,8 @@ KeepsOrder =
 -- a pair of rows of which one is less than both rows of another pair makes the smaller tableau
 abbrev pub SmallerPair : Type 0
 SmallerPair =
-    (rest : List (List ℕ)) (low high first second : List ℕ) → is_gt (row_cmp low high) ≡ false → row_cmp first low ≡ Less
+    (rest : List (List ℕ)) (low high first second : List ℕ) → is_gt (row_cmp low high) ≡ false
+    → row_cmp first low ≡ Less
     → rows_cmp (merged_rows rest (first ∷ second ∷ [])) (merged_rows rest (low ∷ high ∷ [])) ≡ Less
 
 -- row lists with the same points have them still where the same rows are merged into both, and no point is lost

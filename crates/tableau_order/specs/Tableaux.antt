@@ -17,4 +17,5 @@ pub record IsTableau (d : ℕ) (rows : List (List ℕ)) : Type 0 where
 -- row lists that compare as equal give the same
 pub same_rows : {V : Type 0} (f : List (List ℕ) → V) (x y : List (List ℕ)) → IsTrue (eq_by_cmp rows_cmp x y) → f x ≡ f y
 same_rows f x y e =
-    ap f (slice_cmp-IsAntisymmetric (slice_cmp-IsAntisymmetric nat_cmp-IsAntisymmetric) x y ((Equal-is (rows_cmp x y)).0 e))
+    ap f (slice_cmp-IsAntisymmetric (slice_cmp-IsAntisymmetric nat_cmp-IsAntisymmetric) x y
+    ((Equal-is (rows_cmp x y)).0 e))

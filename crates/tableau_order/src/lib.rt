@@ -1,4 +1,4 @@
-//! Tableaux, which are products of brackets: their order, their products, and the first place where one is not standard.
+//! Tableaux, which are products of brackets: their order, their products, and where one is not standard.
 #![tactic(auto)]
 
 pub mod laws;

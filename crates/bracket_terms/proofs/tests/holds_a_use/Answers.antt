@@ -36,5 +36,6 @@ pub invariant_of-log_use : goal.invariant_of-log_use
 invariant_of-log_use g c = record {
   formed =
       given c.one.result c.of.result c.of-2.result c.in_ok-listed.field-0 c.in_ok-listed-2.field-0 c.one.ensures
-      (c.of.ensures ∙ c.new.ensures.items) (c.of-2.ensures ∙ c.new-2.ensures.items) c.in_ok-listed.ensures c.in_ok-listed-2.ensures;
+      (c.of.ensures ∙ c.new.ensures.items) (c.of-2.ensures ∙ c.new-2.ensures.items)
+      c.in_ok-listed.ensures c.in_ok-listed-2.ensures;
 }

@@ -9,6 +9,8 @@ returns-clause-rows g c =
     let both : c.extend_from_slice-2.new.self.items ≡ c.args.a.now ++ c.args.b.now =
     c.in_ok-extend_from_slice-2.ensures.items
     ∙ ap (λ (w : List (List ℕ)). w ++ c.args.b.now)
-    (c.in_ok-extend_from_slice.ensures.items ∙ ap (λ (w : List (List ℕ)). w ++ c.args.a.now) c.new-rows.ensures.items) in
-    sorted_rows c.extend_from_slice-2.new.self.items c.sort.new.self.items c.in_ok-sort.ensures.permutation c.in_ok-sort.ensures.sorted
+    (c.in_ok-extend_from_slice.ensures.items
+    ∙ ap (λ (w : List (List ℕ)). w ++ c.args.a.now) c.new-rows.ensures.items) in
+    sorted_rows c.extend_from_slice-2.new.self.items c.sort.new.self.items
+    c.in_ok-sort.ensures.permutation c.in_ok-sort.ensures.sorted
     ∙ ap (ordered row_cmp) both
