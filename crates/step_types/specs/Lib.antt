@@ -1,0 +1,9 @@
+pub mod Outcome
+pub mod Measures
+pub mod Known
+pub mod Listed
+pub mod Forms
+pub mod Rules
+pub mod Checks
+pub mod Seen
+pub mod Good
