@@ -1,5 +1,5 @@
 -- Each list of words and each input has one answer.
-use Rattle.std.proofs.Common.{◌≡◌, ℕ, ◌<◌, ◌≤◌, ◌⊎◌, inl, inr, Bool, true, false, List, length, codes, refl, sym, ap, ◌∙◌, arith, true≢false}
+use Rattle.std.proofs.Common.{◌≡◌, ℕ, inl, inr, Bool, true, false, List, length, codes, refl, sym, ap, subst, ◌∙◌, arith, true≢false, Result, Ok, Err}
 use Rattle.std.proofs.lemmas.Bool.{cases_lt}
 use Rattle.construction_reader.specs.declared.reading.TheConstants.{LONGEST}
 use Rattle.construction_reader.specs.declared.fault.TextFault.{TextFault}
@@ -7,11 +7,21 @@ use Rattle.construction_reader.specs.Said.{Account}
 use Rattle.construction_reader.proofs.TextAgain.{text_of-unique}
 use Rattle.construction_reader.proofs.FaultTexts.{one_fault, never_both, either}
 use Rattle.prover_cli.specs.Plain.{points_of}
-use Rattle.prover_cli.specs.Answer.{Answer, IsAnswer, IsProveAnswer, IsTextAnswer, is_prove, usage, refused, refused_at, kind_word, points_answer}
+use Rattle.step_types.specs.Checks as steps
+use Rattle.step_types.specs.Known.{Known}
+use Rattle.step_types.specs.declared.fault.StepFault.{StepFault}
+use Rattle.prover_cli.specs.Answer.{Answer, IsAnswer, IsProveAnswer, IsTextAnswer, IsAccountAnswer, is_prove, usage, refused, refused_at, kind_word, step_word, points_answer}
+
+some_account_answer : (c : Account) → (a : Answer) × IsAccountAnswer c a
+some_account_answer c = split (steps.checked c) refl
+  where
+    split : (r : Result Known StepFault) → steps.checked c ≡ r → (a : Answer) × IsAccountAnswer c a
+    split (Ok known) e = (points_answer (points_of c), inr ((known, e), refl))
+    split (Err fault) e = (refused_at fault.line (step_word fault.kind), inl (fault, e, refl))
 
 some_text_answer : (text : List ℕ) → (a : Answer) × IsTextAnswer text a
 some_text_answer text = elim (either text) [
-  | inl w ↦ (points_answer (points_of w.0), inr (w.0, w.1, refl))
+  | inl w ↦ (let found = some_account_answer w.0 in (found.0, inr (w.0, w.1, found.1)))
   | inr w ↦ (refused_at w.0.line (kind_word w.0.kind), inl (w.0, w.1, refl))
 ]
 
@@ -28,13 +38,21 @@ some_answer words input = split (is_prove words) refl
     split true e = let found = some_prove_answer input in (found.0, inr (e, found.1))
     split false e = (usage, inl (e, refl))
 
+one_account_answer : (c : Account) (a b : Answer) → IsAccountAnswer c a → IsAccountAnswer c b → a ≡ b
+one_account_answer c a b (inl (f, is_f, x)) (inl (g, is_g, y)) =
+    let same : f ≡ g = cc in
+    x ∙ ap (λ (fault : StepFault). refused_at fault.line (step_word fault.kind)) same ∙ sym y
+one_account_answer c a b (inl (f, is_f, x)) (inr ((known, good), y)) = absurd cc
+one_account_answer c a b (inr ((known, good), x)) (inl (f, is_f, y)) = absurd cc
+one_account_answer c a b (inr (good, x)) (inr (also, y)) = x ∙ sym y
+
 one_text_answer : (text : List ℕ) (a b : Answer) → IsTextAnswer text a → IsTextAnswer text b → a ≡ b
 one_text_answer text a b (inl (f, is_f, x)) (inl (g, is_g, y)) =
     x ∙ ap (λ (fault : TextFault). refused_at fault.line (kind_word fault.kind)) (one_fault text f g is_f is_g) ∙ sym y
 one_text_answer text a b (inl (f, is_f, x)) (inr (c, gives, y)) = absurd (never_both text c f gives is_f)
 one_text_answer text a b (inr (c, gives, x)) (inl (f, is_f, y)) = absurd (never_both text c f gives is_f)
 one_text_answer text a b (inr (c, gives, x)) (inr (d, also, y)) =
-    x ∙ ap (λ (e : Account). points_answer (points_of e)) (text_of-unique text c d gives also) ∙ sym y
+    one_account_answer c a b x (subst (λ (e : Account). IsAccountAnswer e b) (sym (text_of-unique text c d gives also)) y)
 
 one_prove_answer : (input : List ℕ) (a b : Answer) → IsProveAnswer input a → IsProveAnswer input b → a ≡ b
 one_prove_answer input a b (inl (long, x)) (inl (also, y)) = x ∙ sym y

@@ -1,5 +1,5 @@
 -- Inputs that a source may have had left.
-use Rattle.std.proofs.Common.{◌≡◌, ℕ, ◌+◌, ◌<◌, ◌≤◌, Bool, true, false, if◌then◌else◌, List, [], length, codes, replicate, Option, Some, None, IfSome, refl, sym, ap, ◌∙◌, arith, inl, inr, ◌⊎◌}
+use Rattle.std.proofs.Common.{◌≡◌, ℕ, ◌+◌, ◌<◌, List, [], length, replicate, Option, Some, None, IfSome, refl, arith}
 use Rattle.std.proofs.lemmas.List.{length-replicate}
 use Rattle.prover_cli.specs.Outcome.{IsInput}
 

@@ -1,8 +1,8 @@
 -- What a call writes, by the reply that it puts.
 use Rattle.std.proofs.Common.{◌≡◌, ℕ, ◌⊎◌, inl, inr, List, [], Option, refl, sym, ◌∙◌}
-use Rattle.cay_base.specs.Bytes.{Gains, GainsFront}
+use Rattle.cay_base.specs.Bytes.{Gains}
 use Rattle.prover_cli.specs.declared.status.Status.{Status}
-use Rattle.prover_cli.specs.declared.status.Status.TheVariants.{Proved, Refuted, Usage, TextRefused, ReadFault, WriteFault, Memory}
+use Rattle.prover_cli.specs.declared.status.Status.TheVariants.{Usage, TextRefused, ReadFault, Memory}
 use Rattle.prover_cli.specs.ProofText.{text_of}
 use Rattle.prover_cli.specs.Answer.{Answer}
 use Rattle.prover_cli.specs.Outcome.{IsVerdict, Writes, Written}

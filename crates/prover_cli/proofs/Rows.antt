@@ -1,17 +1,16 @@
 -- Rows of free points, definitions and conclusions, one after the other.
-use Rattle.std.proofs.Common.{◌≡◌, ℕ, ◌+◌, ◌<◌, ◌≤◌, zero, suc, if◌then◌else◌, Bool, true, false, List, [], ◌∷◌, ◌++◌, length, drop, get_or, map, sum_by, Option, Some, None, Result, Ok, Err, refl, sym, ap, ◌∙◌, arith, add-one}
+use Rattle.std.proofs.Common.{◌≡◌, ℕ, ◌+◌, ◌<◌, ◌≤◌, suc, if◌then◌else◌, Bool, true, false, List, [], ◌∷◌, ◌++◌, length, drop, get_or, map, sum_by, Some, None, Err, refl, sym, ap, ◌∙◌, arith, add-one}
 use Rattle.std.proofs.Math.Seq.{drop-cons}
 use Rattle.std.proofs.Math.ListN.{drop_of_length-le}
 use Rattle.std.proofs.lemmas.List.{length-append}
 use Rattle.std.specs.List.{list_any}
-use Rattle.construction_reader.specs.Outcome.{◌>>=◌}
 use Rattle.construction_reader.specs.Words.{◌is◌}
 use Rattle.std.proofs.lemmas.List.Sums.{sum_by-cons}
 use Rattle.construction_reader.specs.Grammar.{free_names}
 use Rattle.construction_reader.specs.Said.{Recipe, Claim, Sentence, Row, row, sentence, sentences_of}
 use Rattle.construction_reader.specs.declared.types.Statement.{Statement}
 use Rattle.construction_reader.specs.declared.types.ObjectKind.{ObjectKind}
-use Rattle.prover_cli.specs.Plain.{Points, with_names, three_of, points_from, points_with}
+use Rattle.prover_cli.specs.Plain.{with_names, points_from, points_with}
 
 -- the entry at a place, and those behind it
 pub drop_at : {A : Type 0} (xs : List A) (i : ℕ) (x : A) → i < length xs → x ≡ get_or xs i x → drop i xs ≡ x ∷ drop (i + 1) xs

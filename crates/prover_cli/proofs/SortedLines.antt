@@ -1,15 +1,13 @@
 -- The lines of a sorted bracket, by what sorting its points answers.
-use Rattle.std.proofs.Common.{◌≡◌, ℕ, ◌<◌, Bool, true, false, if◌then◌else◌, List, [], ◌∷◌, ◌++◌, length, codes, decimal, refl, sym, ap, ◌∙◌, nat_cmp, All, arith}
-use lib.IntN.{ℤ, pos, negsuc}
+use Rattle.std.proofs.Common.{◌≡◌, ℕ, ◌<◌, Bool, true, false, if◌then◌else◌, List, [], ◌∷◌, ◌++◌, codes, refl, sym, ap, ◌∙◌, nat_cmp, All, arith}
+use lib.IntN.{pos, negsuc}
 use Rattle.std.proofs.lemmas.List.{append-nil}
 use Rattle.std.proofs.lemmas.List.Elements.{All-from_recursion, recursion_from_All}
 use Rattle.std.proofs.lemmas.Fmt.{decimal_digit}
 use Rattle.coordinate_model.specs.Sequences.{is_odd, repeats}
-use Rattle.coordinate_model.specs.Sums.{Terms}
-use Rattle.coordinate_model.specs.Key.{Key, rows_key}
+use Rattle.coordinate_model.specs.Key.{rows_key}
 use Rattle.coordinate_model.specs.BracketPolynomial.{KeySums, BracketPolynomial}
-use Rattle.coordinate_model.specs.Brackets.{signed}
-use Rattle.coordinate_model.specs.Syzygy.{sorted, sorted_bracket}
+use Rattle.coordinate_model.specs.Syzygy.{sorted}
 use Rattle.coordinate_model.proofs.SortedRows.{all_ordered}
 use Rattle.coordinate_model.proofs.SortedBrackets.{terms-twice, terms-once, terms-single, terms-minus_single, sign_of}
 use Rattle.bracket_terms.specs.Signed.{sorted_with_sign}

@@ -1,6 +1,6 @@
 -- The proof that is written decides the conclusion.
 use Rattle.std.proofs.Common.{◌≡◌, ◌↔◌, IsTrue, ℕ, Bool, true, false, List, [], ◌∷◌, ◌++◌, length, codes, refl, sym, ap, ◌∙◌, append_assoc, Result, Ok, Err, IsOkAnd, slice_index, arith}
-use Rattle.coordinate_model.specs.Sequences.{IsRank, is_odd, repeats}
+use Rattle.coordinate_model.specs.Sequences.{IsRank, repeats}
 use Rattle.coordinate_model.specs.Polynomial.{Polynomials, br}
 use Rattle.coordinate_model.specs.BracketPolynomial.{BracketPolynomial}
 use Rattle.coordinate_model.specs.Syzygy.{sorted_bracket}
@@ -11,7 +11,6 @@ use Rattle.bracket_terms.specs.declared.signed.Signed.{Signed}
 use Rattle.bracket_terms.specs.declared.signed.Signed.TheVariants.{Zero}
 use Rattle.construction_reader.specs.Said.{Account}
 use Rattle.construction_reader.specs.TextOf.{TextOf}
-use Rattle.prover_cli.specs.declared.status.Status.{Status}
 use Rattle.prover_cli.specs.declared.status.Status.TheVariants.{Proved, Refuted}
 use Rattle.prover_cli.specs.ProofText.{spaced, polynomial_lines, section_lines, join_lines, verdict_line, proof_lines}
 use Rattle.prover_cli.specs.Plain.{Points, points_of}

@@ -3,7 +3,7 @@ use Rattle.std.proofs.Common.{◌≡◌, ℕ, List, [], ◌++◌, Option, Some, 
 use Rattle.std.proofs.lemmas.List.{append-nil}
 use Rattle.std.proofs.Common.{Result, Ok, Err, IsErr}
 use Rattle.std.proofs.lemmas.Bool.{false≢true}
-use Rattle.cay_base.specs.Bytes.{Gains, GainsFront, IsFrontOf, Puts}
+use Rattle.cay_base.specs.Bytes.{Gains, GainsFront, Puts}
 
 -- of the text this part has been put, and this is the rest
 pub record Put (text rest : List ℕ) (before after : Option (List ℕ)) : Type 0 where

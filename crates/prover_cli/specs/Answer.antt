@@ -11,10 +11,14 @@ use Rattle.construction_reader.specs.declared.fault.Kind.{Kind}
 use Rattle.construction_reader.specs.declared.fault.Kind.TheVariants.{Byte, LongName, NoHeader, AfterConclusion, Keyword, Deep, Shape, TooMany, NoConclusion}
 use Rattle.construction_reader.specs.declared.fault.TextFault.{TextFault}
 use Rattle.construction_reader.specs.declared.reading.TheConstants.{LONGEST}
+use Rattle.step_types.specs.Checks as steps
+use Rattle.step_types.specs.declared.fault.StepFault.{StepFault}
+use Rattle.step_types.specs.declared.fault.StepKind.{StepKind}
+use Rattle.step_types.specs.declared.fault.StepKind.TheVariants.{Rank, Twice, Unknown, Step, Rows, Degree}
 use Rattle.prover_cli.specs.declared.status.Status.{Status}
 use Rattle.prover_cli.specs.declared.status.Status.TheVariants.{Proved, Refuted, Usage, TextRefused}
 use Rattle.prover_cli.specs.Plain.{Points, points_of}
-use Rattle.prover_cli.specs.ProofText.{text_of, proof_lines}
+use Rattle.prover_cli.specs.ProofText.{proof_lines}
 
 -- a status, and the lines that go with it
 pub record Answer : Type 0 where
@@ -55,6 +59,15 @@ kind_word Shape = codes "shape"
 kind_word TooMany = codes "toomany"
 kind_word NoConclusion = codes "noconclusion"
 
+-- the word of a broken step rule
+abbrev pub step_word : StepKind → List ℕ
+step_word Rank = codes "rank"
+step_word Twice = codes "twice"
+step_word Unknown = codes "unknown"
+step_word Step = codes "step"
+step_word Rows = codes "rows"
+step_word Degree = codes "degree"
+
 -- Proved where the conclusion's polynomial has no term
 abbrev pub verdict : Terms Key → Status
 verdict [] = Proved
@@ -66,11 +79,17 @@ points_answer (Err line) = refused_at line (codes "later")
 points_answer (Ok points) =
     record { status = verdict (sorted_bracket points.three).terms; lines = proof_lines points.free points.three }
 
+-- the answer to a construction: to its first broken step rule, or to its points
+abbrev pub IsAccountAnswer : Account → Answer → Type 0
+IsAccountAnswer c answer =
+    ((fault : StepFault) × steps.IsFault c fault × (answer ≡ refused_at fault.line (step_word fault.kind)))
+    ⊎ (steps.IsGood c × (answer ≡ points_answer (points_of c)))
+
 -- the answer to a text that is not too long: to its fault, or to the construction that it gives
 abbrev pub IsTextAnswer : List ℕ → Answer → Type 0
 IsTextAnswer text answer =
     ((fault : TextFault) × IsFault text fault × (answer ≡ refused_at fault.line (kind_word fault.kind)))
-    ⊎ ((c : Account) × TextOf text c × (answer ≡ points_answer (points_of c)))
+    ⊎ ((c : Account) × TextOf text c × IsAccountAnswer c answer)
 
 -- the answer to the whole input under `prove`
 abbrev pub IsProveAnswer : List ℕ → Answer → Type 0

@@ -1,5 +1,5 @@
 -- What the readers of points answer.
-use Rattle.std.specs.Prelude.{◌≡◌, ℕ, List, Result, Ok, Err}
+use Rattle.std.specs.Prelude.{◌≡◌, ℕ, Result, Ok, Err}
 use Rattle.prover_cli.specs.declared.plain.Plain.{Plain}
 use Rattle.prover_cli.specs.declared.plain.PlainError.{PlainError}
 use Rattle.prover_cli.specs.declared.plain.PlainError.TheVariants.{Later, Memory}

@@ -1,5 +1,5 @@
 -- What a call of the program does: it answers, or it tells of a fault after a front of the answer's bytes.
-use Rattle.std.specs.Prelude.{◌≡◌, ◌≢◌, ◌⊎◌, ℕ, List, [], ◌∷◌, ◌++◌, Option, Some, OnSome, IfSome, Result, Ok, codes}
+use Rattle.std.specs.Prelude.{◌≡◌, ◌≢◌, ◌⊎◌, ℕ, List, [], ◌∷◌, ◌++◌, Option, IfSome, Ok, codes}
 use Rattle.cay_base.specs.Bytes.{Gains, GainsFront}
 use Rattle.cay_base.specs.Causes.{Rose}
 use Rattle.coordinate_model.specs.Polynomial.{Polynomial, Polynomials, br}
@@ -7,7 +7,7 @@ use Rattle.coordinate_model.specs.BracketPolynomial.{BracketPolynomial, IsNormal
 use Rattle.construction_reader.specs.Said.{Account}
 use Rattle.construction_reader.specs.TextOf.{TextOf}
 use Rattle.prover_cli.specs.declared.status.Status.{Status}
-use Rattle.prover_cli.specs.declared.status.Status.TheVariants.{Proved, Refuted, Usage, TextRefused, ReadFault, WriteFault, Memory}
+use Rattle.prover_cli.specs.declared.status.Status.TheVariants.{Proved, Refuted, ReadFault, WriteFault, Memory}
 use Rattle.prover_cli.specs.ProofText.{text_of, polynomial_lines, verdict_line}
 use Rattle.prover_cli.specs.Plain.{Points, points_of}
 use Rattle.prover_cli.specs.Answer.{Answer, IsAnswer}

@@ -5,11 +5,11 @@ ghost use Rattle.cay_base.specs.Causes.{Rose};
 ghost use Rattle.coordinate_model.specs.Syzygy.{sorted_bracket};
 ghost use Rattle.construction_reader.specs.Seen.{account};
 ghost use Rattle.construction_reader.specs.declared.reading.TheConstants.{LONGEST};
-ghost use Rattle.prover_cli.specs.Answer.{points_answer, refused, refused_at, kind_word, verdict};
+ghost use Rattle.prover_cli.specs.Answer.{points_answer, refused, refused_at, kind_word, step_word, verdict};
 ghost use Rattle.prover_cli.specs.Given.{points};
 ghost use Rattle.prover_cli.specs.Outcome.{IsVerdict};
 ghost use Rattle.prover_cli.specs.Plain.{points_of};
-ghost use Rattle.prover_cli.specs.Reply.{IsReply, IsReplyTo, IsTextReply};
+ghost use Rattle.prover_cli.specs.Reply.{IsReply, IsReplyTo, IsTextReply, IsAccountReply};
 
 use crate::lines::add_line;
 use crate::plain::{Plain, PlainError, plain_points};
@@ -19,6 +19,7 @@ use bracket_terms::{Signed, sort};
 use cay_base::{NoMemory, ReadError, Source, read_all};
 use construction_reader::{Construction, Kind, LONGEST, ReadTextError, read};
 use std::alloc::Global;
+use step_types::{CheckError, StepKind, check};
 
 /// A status, and the text that goes with it.
 #[derive(Drop)]
@@ -54,13 +55,24 @@ fn reply_to(alloc: Global, text: &[u8]) -> Result<Reply, NoMemory>
     ensures { IfOk result (IsTextReply text.now) }
 {
     match read(alloc, text) {
-        Ok(construction) => reply_to_points(alloc, &construction),
+        Ok(construction) => reply_to_construction(alloc, construction),
         Err(ReadTextError::Fault(fault)) => refuse_at(alloc, fault.line, kind_word(fault.kind)),
         Err(ReadTextError::Memory) => Err(NoMemory),
     }
 }
 
 /// The answer to a construction.
+fn reply_to_construction(alloc: Global, construction: Construction) -> Result<Reply, NoMemory>
+    ensures { IfOk result (IsAccountReply (account construction)) }
+{
+    match check(alloc, construction) {
+        Ok(checked) => reply_to_points(alloc, checked.construction()),
+        Err(CheckError::Fault(fault)) => refuse_at(alloc, fault.line, step_word(fault.kind)),
+        Err(CheckError::Memory) => Err(NoMemory),
+    }
+}
+
+/// The answer to a construction that keeps the step rules.
 fn reply_to_points(alloc: Global, construction: &Construction) -> Result<Reply, NoMemory>
     ensures reply { IfOk result (IsReply (points_answer (points_of (account construction.now)))) }
     ensures status { IfOk result (λ reply. IsVerdict reply.status ⊎ (reply.status ≡ Status.TextRefused)) }
@@ -87,6 +99,20 @@ fn kind_word(kind: Kind) -> &'static str
         Kind::Shape => "shape",
         Kind::TooMany => "toomany",
         Kind::NoConclusion => "noconclusion",
+    }
+}
+
+/// The word of a broken step rule.
+fn step_word(kind: StepKind) -> &'static str
+    ensures { result.now ≡ step_word kind }
+{
+    match kind {
+        StepKind::Rank => "rank",
+        StepKind::Twice => "twice",
+        StepKind::Unknown => "unknown",
+        StepKind::Step => "step",
+        StepKind::Rows => "rows",
+        StepKind::Degree => "degree",
     }
 }
 

@@ -78,7 +78,7 @@ fn decides_plain_texts(rt: HostRuntime) -> Result<(), Fail> {
 
 #[test]
 fn refuses_other_texts(rt: HostRuntime) -> Result<(), Fail> {
-    let cases: [(&[u8], &str); 17] = [
+    let cases: [(&[u8], &str); 20] = [
         (b"", "1 noheader"),
         (b"construction 2\n", "1 noheader"),
         (b"construction 1\nrank 2\n", "2 noheader"),
@@ -96,7 +96,29 @@ fn refuses_other_texts(rt: HostRuntime) -> Result<(), Fail> {
             b"construction 1\nrank 3\nfree A B C\nconclude collinear A B C\nfree D\n",
             "5 afterconclusion",
         ),
-        // What the grammar takes and the program does not yet.
+        // What the step rules do not take.
+        (
+            b"construction 1\nrank 3\nfree A B C D\nconclude coplanar A B C D\n",
+            "4 rank",
+        ),
+        (
+            b"construction 1\nrank 3\nfree A B\nfree B C\nconclude collinear A B C\n",
+            "4 twice",
+        ),
+        (
+            b"construction 1\nrank 3\nfree A B C\nconclude collinear A B X\n",
+            "4 unknown",
+        ),
+        (
+            b"construction 1\nrank 3\nfree A B\nline l = join A B\nconclude collinear A B l\n",
+            "5 step",
+        ),
+        // A broken step rule comes before a form of an earlier line that is not built.
+        (
+            b"construction 1\nrank 4\nfree A B C\nline l = join A B\nconclude incident C l\n",
+            "5 step",
+        ),
+        // What the step rules take and the program does not yet.
         (
             b"construction 1\nrank 4\nfree A B C D\nconclude coplanar A B C D\n",
             "3 later",
@@ -106,15 +128,7 @@ fn refuses_other_texts(rt: HostRuntime) -> Result<(), Fail> {
             "4 later",
         ),
         (
-            b"construction 1\nrank 3\nfree A B\nfree B C\nconclude collinear A B C\n",
-            "4 later",
-        ),
-        (
-            b"construction 1\nrank 3\nfree A B C\nconclude collinear A B X\n",
-            "4 later",
-        ),
-        (
-            b"construction 1\nrank 3\nfree A B C\nconclude collinear A B (meet A B)\n",
+            b"construction 1\nrank 3\nfree A B C\nconclude collinear A B (meet (join A B) (join B C))\n",
             "4 later",
         ),
         (

@@ -1,4 +1,4 @@
-use Rattle.std.proofs.Common.{◌≡◌, ◌++◌, List, ℕ, arith, ap, ◌∙◌}
+use Rattle.std.proofs.Common.{◌≡◌, ◌++◌, arith}
 use Rattle.std.proofs.lemmas.List.{take-append-drop}
 use Rattle.prover_cli.proofs.Writing.{put_more, put_front, puts_front}
 use Rattle.prover_cli.proofs.lines.put_lines.Goals as goal

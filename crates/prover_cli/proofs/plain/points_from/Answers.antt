@@ -1,6 +1,6 @@
-use Rattle.std.proofs.Common.{◌≡◌, ◌+◌, ◌≤◌, ◌++◌, ◌∷◌, [], ℕ, List, drop, map, length, sum_by, true, false, Some, None, Result, Ok, Err, MatchBool, refl, subst, sym, ◌∙◌, ap, arith}
+use Rattle.std.proofs.Common.{◌≡◌, ◌+◌, ◌∷◌, [], ℕ, List, drop, map, length, sum_by, Some, None, Result, Ok, refl, subst, sym, ◌∙◌, ap, arith}
 use Rattle.std.proofs.lemmas.List.Sums.{sum_by-cons}
-use Rattle.construction_reader.specs.Said.{Row, Sentence, row, sentence, recipe, claim}
+use Rattle.construction_reader.specs.Said.{row, sentence, recipe, claim}
 use Rattle.construction_reader.specs.Grammar.{free_names}
 use Rattle.construction_reader.specs.declared.types.Body.{Body}
 use Rattle.construction_reader.specs.declared.types.Statement.{Statement}
@@ -9,7 +9,7 @@ use Rattle.construction_reader.specs.Outcome.{◌>>=◌}
 use Rattle.prover_cli.specs.declared.plain.PlainError.{PlainError}
 use Rattle.prover_cli.specs.declared.plain.PlainError.TheVariants.{Later, Memory}
 use Rattle.prover_cli.specs.Given.{Fails}
-use Rattle.prover_cli.specs.Plain.{Points, with_names, three_of, points_from, points_with}
+use Rattle.prover_cli.specs.Plain.{Points, with_names, three_of, points_from}
 use Rattle.prover_cli.proofs.Rows.{drop_at, drop_all, length-with_names, points-free, points-repeated, points-define, points-conclude, points-none}
 use Rattle.prover_cli.proofs.plain.points_from.Goals as goal
 

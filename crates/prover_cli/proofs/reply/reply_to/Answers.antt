@@ -3,5 +3,4 @@ use Rattle.prover_cli.proofs.reply.reply_to.Goals as goal
 
 pub returns-in-Ok : goal.returns-in-Ok
 returns-in-Ok c =
-    replies c.reply_to_points.result c.args.text.now _ c.in-Ok.ensures.found c.reply_to_points.ensures.reply
-    c.reply_to_points.ensures.status c.reply_to_points.ensures.verdict
+    replies c.reply_to_construction.result c.args.text.now _ c.in-Ok.ensures.found c.reply_to_construction.ensures
