@@ -6,7 +6,7 @@ use Rattle.std.proofs.Common.{append-nil, true≢false, eqb-true, length-append,
 use Rattle.std.specs.List.{list_all}
 use Rattle.std.proofs.Math.Seq.{take-append_seam}
 use Rattle.std.proofs.lemmas.List.{length-take-le}
-use Rattle.coordinate_model.specs.Sequences.{IsRank, is_odd, splits, subsets, has, repeats}
+use Rattle.coordinate_model.specs.Sequences.{IsRank, is_odd, splits, subsets, has, repeats, sign_of}
 use Rattle.coordinate_model.specs.Brackets.{Coords, sum_over, signed, extensor, join, Point}
 use Rattle.coordinate_model.specs.ObjectLaws.{AreJoined}
 use Rattle.coordinate_model.specs.Polynomial.{Polynomial, Polynomials, free_point}
@@ -16,7 +16,7 @@ use Rattle.coordinate_model.proofs.PolynomialRing.{polynomial_ring}
 use Rattle.coordinate_model.proofs.Alternating.{extensor-sorted, extensor-repeats}
 use Rattle.coordinate_model.proofs.JoinLaws.{join-law}
 use Rattle.bracket_terms.specs.Extensors.{IsExtensor}
-use Rattle.bracket_terms.specs.Joins.{sign_of, by_sign, share_point}
+use Rattle.bracket_terms.specs.Joins.{by_sign, share_point}
 
 -- ---- the sets of columns
 

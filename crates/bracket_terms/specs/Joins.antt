@@ -1,8 +1,8 @@
 -- Joins of extensors of free points, with their signs and coordinates.
-use Rattle.std.specs.Prelude.{◌≡◌, ℕ, ◌+◌, if◌then◌else◌, Bool, Option, Some, None, ℤ, pos, negsuc, List, map, take}
+use Rattle.std.specs.Prelude.{◌≡◌, ℕ, ◌+◌, Bool, Option, Some, None, ℤ, pos, negsuc, List, map, take}
 use Rattle.std.specs.Prelude.{length, All}
 use Rattle.std.specs.List.{list_any}
-use Rattle.coordinate_model.specs.Sequences.{has, is_odd, subsets}
+use Rattle.coordinate_model.specs.Sequences.{has, sign_of, subsets}
 use Rattle.coordinate_model.specs.Brackets.{Coords, extensor, join}
 use Rattle.coordinate_model.specs.Polynomial.{Polynomial, Polynomials, free_point}
 use Rattle.coordinate_model.specs.Syzygy.{sorted}
@@ -19,10 +19,6 @@ coordinates_of a = extensor Polynomials (map free_point (points_of a))
 -- whether some point stands in both lists
 abbrev pub share_point : List ℕ → List ℕ → Bool
 share_point us vs = list_any (has vs) us
-
--- the sign of a sequence, +1 or -1
-abbrev pub sign_of : List ℕ → ℤ
-sign_of points = if is_odd points then negsuc 0 else pos 1
 
 -- the extensor has the points of the sequence in ascending order, and the sign is that of the sequence
 pub record IsSignedUnion (points : List ℕ) (union : Extensor) (sign : ℤ) : Type 0 where

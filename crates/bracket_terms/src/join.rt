@@ -1,8 +1,8 @@
 //! Joins of extensors.
 ghost use Rattle.std.specs.Prelude.{◌≡◌, ℕ, ◌+◌, ◌≤◌, ◌++◌, ◌↔◌, IsNone, IsTrue, IfSome, ◌-◌, length, replicate};
 ghost use Rattle.std.specs.Prelude.{take, drop};
-ghost use Rattle.coordinate_model.specs.Sequences.{IsRank};
-ghost use Rattle.bracket_terms.specs.Joins.{points_of, share_point, sign_of, IsSignedUnion, HasCoordinates};
+ghost use Rattle.coordinate_model.specs.Sequences.{IsRank, sign_of};
+ghost use Rattle.bracket_terms.specs.Joins.{points_of, share_point, IsSignedUnion, HasCoordinates};
 
 use crate::extensor::Extensor;
 use crate::sequence::{is_increasing, is_odd};

@@ -40,12 +40,12 @@ repeated_point ps r h = bracket-repeats Polynomials polynomial_ring free_point p
 
 -- ---- values
 
--- the value of a key
-unit_value : key_value (rows_key []) ≡ Polynomials.𝟙
+-- the value of the key without rows, and of one row
+pub unit_value : key_value (rows_key []) ≡ Polynomials.𝟙
 unfolding key_value
 unit_value = ap (λ c. Polynomials.◌⊗◌ c Polynomials.𝟙) monomial-none ∙ polynomial_ring.mul_one Polynomials.𝟙
 
-row_value : (r : List ℕ) → key_value (rows_key (r ∷ [])) ≡ br r
+pub row_value : (r : List ℕ) → key_value (rows_key (r ∷ [])) ≡ br r
 unfolding key_value
 row_value r =
     ap₂ Polynomials.◌⊗◌ monomial-none (polynomial_ring.mul_one (br r)) ∙ L.one_mul Polynomials polynomial_ring (br r)

@@ -14,11 +14,13 @@ use Rattle.coordinate_model.specs.Sequences.{inversions, range_from, permutation
 use Rattle.coordinate_model.specs.Brackets.{Point, Coords, signed, bracket, syzygy, join, join_points, extensor, meet}
 use Rattle.coordinate_model.specs.Brackets.{shuffle, six_point}
 use Rattle.coordinate_model.specs.Words.{word_of}
-use Rattle.coordinate_model.specs.Sums.{coefficient, sum_of, single, plus, minus, times}
+use Rattle.coordinate_model.specs.Sums.{Terms, coefficient, sum_of, single, plus, minus, times}
 use Rattle.coordinate_model.specs.Polynomial.{coordinate, parameter, monomial_of, monomial_cmp, br}
 use Rattle.coordinate_model.specs.Key.{Key, row_cmp, key_cmp, rows_key, column, IsRow, IsStandardKey}
 use Rattle.coordinate_model.specs.BracketPolynomial.{IsNormal, value}
 use Rattle.coordinate_model.specs.Syzygy.{sorted_bracket, syz, Use, IsUse, multiple}
+use Rattle.coordinate_model.specs.Value.{Value}
+use Rattle.coordinate_model.specs.Starts.{Product, join_products, meet_products, starts}
 use Rattle.coordinate_model.proofs.Increasing.{increasing_next}
 use Rattle.coordinate_model.proofs.KeySets.{all_sum_of}
 use Rattle.coordinate_model.proofs.KeyTests.{Tableaux, terms_of, tableaux, same_at, same_value}
@@ -254,6 +256,39 @@ multiple_terms : (multiple one_use).terms
     ∷ (with_parameter ((1 ∷ 4 ∷ []) ∷ (2 ∷ 3 ∷ []) ∷ (4 ∷ 5 ∷ []) ∷ []), pos 3) ∷ []
 unfolding sum_of single plus minus times sorted_bracket syz syzygy multiple
 multiple_terms = refl
+
+-- ---- starts
+
+-- the value with one entry of coefficient 1 for each of these extensors
+abbrev value_of : List (List ℕ) → Value
+value_of xs = map (λ x. (x, single key_cmp (rows_key []))) xs
+
+-- the starts by their terms
+abbrev start_terms : List Product → List (List ℕ × Terms Key)
+start_terms ps = map (λ e. (e.0, e.1.terms)) (starts ps)
+
+-- the key of one row
+abbrev one_row : List ℕ → Key
+one_row r = rows_key (r ∷ [])
+
+-- the meet of 12 and 34 in rank 3: -[234] * 1 + [134] * 2
+meet_starts : start_terms (meet_products 3 (value_of ((1 ∷ 2 ∷ []) ∷ [])) (value_of ((3 ∷ 4 ∷ []) ∷ [])))
+    ≡ (1 ∷ [], (one_row (2 ∷ 3 ∷ 4 ∷ []), negsuc 0) ∷ []) ∷ (2 ∷ [], (one_row (1 ∷ 3 ∷ 4 ∷ []), pos 1) ∷ []) ∷ []
+unfolding sum_of single
+meet_starts = refl
+
+-- the join of 3 + 2 and 2 + 1 in rank 3: the point 2 with itself adds nothing, and 13, 12 and 23 come with -1
+join_starts : start_terms (join_products 3 (value_of ((3 ∷ []) ∷ (2 ∷ []) ∷ [])) (value_of ((2 ∷ []) ∷ (1 ∷ []) ∷ [])))
+    ≡ (1 ∷ 2 ∷ [], (rows_key [], negsuc 0) ∷ []) ∷ (1 ∷ 3 ∷ [], (rows_key [], negsuc 0) ∷ [])
+    ∷ (2 ∷ 3 ∷ [], (rows_key [], negsuc 0) ∷ []) ∷ []
+unfolding sum_of single
+join_starts = refl
+
+-- the join of 12 and 3 + 1 in rank 3 is the bracket [123] times the extensor of no points
+full_join_starts : start_terms (join_products 3 (value_of ((1 ∷ 2 ∷ []) ∷ [])) (value_of ((3 ∷ []) ∷ (1 ∷ []) ∷ [])))
+    ≡ ([], (one_row (1 ∷ 2 ∷ 3 ∷ []), pos 1) ∷ []) ∷ []
+unfolding sum_of single
+full_join_starts = refl
 
 -- ---- normal forms in rank 3
 

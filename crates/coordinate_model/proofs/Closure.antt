@@ -19,13 +19,13 @@ use Rattle.coordinate_model.proofs.KeySets.{all_sum_of, all_single, all_plus, al
 
 -- ---- keys
 
-length-add_exponents : (n : ℕ) (e f : List ℕ) → length e ≡ n → length f ≡ n → length (add_exponents e f) ≡ n
+pub length-add_exponents : (n : ℕ) (e f : List ℕ) → length e ≡ n → length f ≡ n → length (add_exponents e f) ≡ n
 length-add_exponents n [] f h k = k
 length-add_exponents n (x ∷ e) [] h k = h
 length-add_exponents zero (x ∷ e) (y ∷ f) h k = absurd (omega arith)
 length-add_exponents (suc n) (x ∷ e) (y ∷ f) h k = ap suc (length-add_exponents n e f (omega arith) (omega arith))
 
-length-add_none : (n : ℕ) (e f : List ℕ) → length e ≡ n → length f ≡ 0 → length (add_exponents e f) ≡ n
+pub length-add_none : (n : ℕ) (e f : List ℕ) → length e ≡ n → length f ≡ 0 → length (add_exponents e f) ≡ n
 length-add_none n [] [] h k = h
 length-add_none n [] (y ∷ f) h k = absurd (omega arith)
 length-add_none n (x ∷ e) [] h k = h
@@ -37,7 +37,7 @@ all_join P [] ys h k = k
 all_join P (x ∷ xs) ys h k = (h.0, all_join P xs ys h.1 k)
 
 -- a product of keys is a key
-key_times-is : (d r : ℕ) (k l : Key) → AllByRecursion (IsRow d) k.rows → AllByRecursion (IsRow d) l.rows
+pub key_times-is : (d r : ℕ) (k l : Key) → AllByRecursion (IsRow d) k.rows → AllByRecursion (IsRow d) l.rows
     → length (add_exponents k.exponents l.exponents) ≡ r → IsKey d r (key_times k l)
 key_times-is d r k l h i e =
     record {

@@ -11,6 +11,7 @@ pub mod Diagonal
 pub mod Exponents
 pub mod Generic
 pub mod Grid
+pub mod Grouping
 pub mod Hom
 pub mod Homogeneous
 pub mod Increasing
@@ -29,6 +30,7 @@ pub mod Openings
 pub mod Orders
 pub mod PlacementLaws
 pub mod PolynomialRing
+pub mod Products
 pub mod Ranks
 pub mod RingIntegers
 pub mod RingLemmas
@@ -36,6 +38,8 @@ pub mod SortedBrackets
 pub mod SortedRows
 pub mod Sorting
 pub mod Splits
+pub mod StartKeys
+pub mod StartLaws
 pub mod StdSort
 pub mod SumLemmas
 pub mod SumRing

@@ -1,13 +1,10 @@
 -- The terms of a sorted bracket, one or none; and it is normal.
-use Rattle.std.proofs.Common.{◌≡◌, ℕ, ◌+◌, ◌<◌, ◌≤◌, Bool, true, false, cond, List, [], ◌∷◌, length, refl, ap, ◌∙◌, nat_cmp, arith, subst}
+use Rattle.std.proofs.Common.{◌≡◌, ℕ, Bool, true, false, cond, List, [], ◌∷◌, length, refl, ◌∙◌, arith}
 use lib.IntN.{ℤ, pos, negsuc}
-use Rattle.std.specs.List.{AllByRecursion}
 use Rattle.coordinate_model.specs.Sequences.{is_odd, repeats}
-use Rattle.coordinate_model.specs.Words.{ordered}
-use Rattle.coordinate_model.specs.Sums.{Terms, single, minus, sum_of}
+use Rattle.coordinate_model.specs.Sums.{single, minus, sum_of}
 use Rattle.coordinate_model.specs.Key.{Key, key_cmp, rows_key, IsStandardKey}
 use Rattle.coordinate_model.specs.BracketPolynomial.{KeySums, BracketPolynomial, IsNormal}
-use Rattle.coordinate_model.specs.Brackets.{signed}
 use Rattle.coordinate_model.specs.Syzygy.{sorted, sorted_bracket}
 use Rattle.coordinate_model.proofs.Sorting.{length-ordered}
 use Rattle.coordinate_model.proofs.SortedRows.{sorted_increasing}

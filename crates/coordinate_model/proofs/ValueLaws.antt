@@ -10,6 +10,7 @@ use Rattle.coordinate_model.specs.Brackets.{Coords, sum_over, extensor, join, me
 use Rattle.coordinate_model.specs.Polynomial.{Polynomial, Polynomials, free_point}
 use Rattle.coordinate_model.specs.BracketPolynomial.{BracketPolynomial, mul, value}
 use Rattle.coordinate_model.specs.Value.{Value, HasStep, coordinates, meet_value, times_value, join_values, meet_values}
+use Rattle.coordinate_model.specs.Starts.{Entry}
 use Rattle.coordinate_model.specs.ObjectLaws.{AreJoined, JoinOfValues, MeetOfValues, plus_coords, times_coords}
 use Rattle.coordinate_model.specs.ObjectLaws.{IsBilinear, meet_of, CombinationOfValues}
 use Rattle.coordinate_model.proofs.RingLemmas as L
@@ -24,16 +25,12 @@ infixl 45 ◌⊕◌
 infixl 55 ◌⊗◌
 open Polynomials use {𝟘, ◌⊕◌, ◌⊗◌}
 
--- an entry of a value
-abbrev Entry : Type 0
-Entry = List ℕ × BracketPolynomial
-
 -- the extensor of free points
-abbrev free : List ℕ → Coords Polynomials
+abbrev pub free : List ℕ → Coords Polynomials
 free us = extensor Polynomials (map free_point us)
 
 -- the sum over the entries
-abbrev total : (Entry → Polynomial) → Value → Polynomial
+abbrev pub total : (Entry → Polynomial) → Value → Polynomial
 total f es = sum_over Polynomials f es
 
 -- ---- coordinates of values that are put together
@@ -86,7 +83,7 @@ module _ (h : Coords Polynomials → Polynomial)
       ∙ ap₂ ◌⊕◌ (multiple (value e.1) (free e.0)) (linear-at A)
 
 -- sums of terms that agree
-same_total : (f g : Entry → Polynomial) (A : Value) → AllByRecursion (λ e. f e ≡ g e) A → total f A ≡ total g A
+pub same_total : (f g : Entry → Polynomial) (A : Value) → AllByRecursion (λ e. f e ≡ g e) A → total f A ≡ total g A
 same_total f g [] h = refl
 same_total f g (e ∷ A) h = ap₂ ◌⊕◌ h.0 (same_total f g A h.1)
 
@@ -115,7 +112,7 @@ module _ (f : Coords Polynomials → Coords Polynomials → Coords Polynomials) 
       each (y ∷ B) s =
           (e x y h s.0 ∙ polynomial_ring.mul_assoc (value x.1) (value y.1) (f (free x.0) (free y.0) K), each B s.1)
 
-  of_values : (A B : Value) → HasStep a A → HasStep b B
+  pub of_values : (A B : Value) → HasStep a A → HasStep b B
       → total (λ x. total (of_pair x) B) A ≡ f (coordinates A) (coordinates B) K
   of_values A B s t =
       same_total (λ x. total (of_pair x) B) (λ x. value x.1 ⊗ f (free x.0) (coordinates B) K) A (each A s)
@@ -129,7 +126,7 @@ module _ (f : Coords Polynomials → Coords Polynomials → Coords Polynomials) 
 
 -- ---- joins
 
-join_free : (d a b : ℕ) (us vs : List ℕ) → IsRank d → (1 ≤ a) × (1 ≤ b) × (a + b ≤ d) → length us ≡ a → length vs ≡ b
+pub join_free : (d a b : ℕ) (us vs : List ℕ) → IsRank d → (1 ≤ a) × (1 ≤ b) × (a + b ≤ d) → length us ≡ a → length vs ≡ b
     → All (λ K. join Polynomials a (free us) (free vs) K ≡ free (us ++ vs) K) (subsets d (a + b))
 join_free d a b us vs r s e g i x h =
     subst₂ (λ m n. All (λ K. join Polynomials m (free us) (free vs) K ≡ extensor Polynomials
@@ -176,7 +173,7 @@ join_of_values d a b A B r s p q i x h =
 
 -- ---- meets
 
-meet_free : (d a b : ℕ) (us vs : List ℕ) → IsRank d → (1 ≤ a) × (a < d) × (1 ≤ b) × (b < d) × (d ≤ a + b)
+pub meet_free : (d a b : ℕ) (us vs : List ℕ) → IsRank d → (1 ≤ a) × (a < d) × (1 ≤ b) × (b < d) × (d ≤ a + b)
     → length us ≡ a → length vs ≡ b
     → All (λ K. coordinates (meet_value d us vs) K ≡ meet Polynomials d a b (free us) (free vs) K)
     (subsets d (a + b - d))

@@ -13,4 +13,6 @@ pub mod SyzygyLaws
 pub mod ObjectLaws
 pub mod NormalLaws
 pub mod PlacementLaws
+pub mod Starts
+pub mod StartLaws
 pub mod Code

@@ -2,7 +2,8 @@
 -- those of determinants: +1 where the inversions are even in number, and -1 otherwise.
 use Rattle.std.specs.Prelude.{ℕ, zero, suc, ◌+◌, ◌%◌, ◌≤◌, count_by, flat_map, filter, filter_map, slice_get, Bool}
 use Rattle.std.specs.Prelude.{false}
-use Rattle.std.specs.Prelude.{not, ◌&&◌, ◌||◌, nat_lt, ◌==◌, List, [], ◌∷◌, ◌++◌, map}
+use Rattle.std.specs.Prelude.{not, ◌&&◌, ◌||◌, nat_lt, ◌==◌, if◌then◌else◌, List, [], ◌∷◌, ◌++◌, map}
+use Rattle.std.specs.Prelude.{ℤ, pos, negsuc}
 use Rattle.std.specs.List.{list_any, list_all}
 use Rattle.std.specs.Bool.{beq}
 
@@ -14,6 +15,10 @@ inversions (x ∷ xs) = count_by (λ y. nat_lt y x) xs + inversions xs
 -- whether the sign of the sequence is -1
 abbrev pub is_odd : List ℕ → Bool
 is_odd xs = inversions xs % 2 == 1
+
+-- the sign of the sequence, +1 or -1
+abbrev pub sign_of : List ℕ → ℤ
+sign_of xs = if is_odd xs then negsuc 0 else pos 1
 
 -- the k numbers n, n + 1, ..
 abbrev pub range_from : ℕ → ℕ → List ℕ

@@ -1,14 +1,15 @@
 -- Syzygies as bracket polynomials: brackets sorted with their sign, the van der Waerden syzygies of free points with
 -- their terms collected, and the uses of them by which straightening rewrites (Sturmfels, Algorithms in Invariant
 -- Theory, section 3.1).
-use Rattle.std.specs.Prelude.{◌≡◌, ◌≢◌, ℕ, ◌+◌, ◌≤◌, ◌^◌, if◌then◌else◌, List, [], ◌∷◌, length, IsSorted, ℤ, pos, neg_ℤ}
+use Rattle.std.specs.Prelude.{◌≡◌, ◌≢◌, ℕ, ◌+◌, ◌≤◌, ◌^◌, if◌then◌else◌, List, [], ◌∷◌, length, map, IsSorted, ℤ, pos, neg_ℤ}
+use Rattle.std.specs.Prelude.{◌*ℤ◌}
 use Rattle.std.specs.List.{AllByRecursion}
 use Rattle.std.specs.Ordering.{nat_cmp}
 use Rattle.coordinate_model.specs.Sequences.{IsRank, repeats}
 use Rattle.coordinate_model.specs.Brackets.{signed, syzygy}
 use Rattle.coordinate_model.specs.Words.{ordered}
-use Rattle.coordinate_model.specs.Sums.{sum_of, single}
-use Rattle.coordinate_model.specs.Key.{key_cmp, row_cmp, rows_key}
+use Rattle.coordinate_model.specs.Sums.{Terms, sum_of, single}
+use Rattle.coordinate_model.specs.Key.{Key, key_cmp, key_times, row_cmp, rows_key}
 use Rattle.coordinate_model.specs.BracketPolynomial.{KeySums, BracketPolynomial, mul}
 
 -- the points in ascending order
@@ -56,3 +57,12 @@ use_term u = sum_of key_cmp ((record { exponents = u.exponents; rows = u.rest },
 -- the multiple that a use adds: its syzygy with the rest rows merged in, times the parameters and the multiplier
 unfoldable pub multiple : Use → BracketPolynomial
 multiple u = mul (use_term u) (syz u.alpha u.beta u.gamma)
+
+-- the parameters and the rest rows of a use, as a key
+abbrev pub use_key : Use → Key
+use_key u = record { exponents = u.exponents; rows = u.rest }
+
+-- the terms of the multiple, in the order of the syzygy's terms
+abbrev pub additions : Use → Terms Key
+additions u =
+    map (λ t. (key_times (use_key u) t.0, u.multiplier *ℤ t.1)) (syz u.alpha u.beta u.gamma).terms

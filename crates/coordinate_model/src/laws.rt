@@ -12,6 +12,7 @@ ghost use Rattle.coordinate_model.specs.SyzygyLaws.{ThreeTerms, ThreeTermsOfFree
 ghost use Rattle.coordinate_model.specs.ObjectLaws.{SortedExtensor, ZeroExtensor, FullExtensor, JoinLaw, LinearJoins};
 ghost use Rattle.coordinate_model.specs.ObjectLaws.{ShuffleLaw, MeetValue, LinearMeets};
 ghost use Rattle.coordinate_model.specs.ObjectLaws.{CombinationOfValues, JoinOfValues, MeetOfValues};
+ghost use Rattle.coordinate_model.specs.StartLaws.{StartsOfJoin, StartsOfMeet, ZeroEntries, AdditionsOfMultiple};
 ghost use Rattle.coordinate_model.specs.NormalLaws.{SamePolynomials, SameBracketPolynomials, HasCoefficients};
 ghost use Rattle.coordinate_model.specs.NormalLaws.{KeySumLaws, ValueOfSum, ValueOfProduct, MakesBracketPolynomials};
 ghost use Rattle.coordinate_model.specs.NormalLaws.{LexicographicOrder, GreatestOfKey, OneKey, Independent};
@@ -98,6 +99,19 @@ pub fn objects()
     ensures combinations { CombinationOfValues }
     ensures joins { JoinOfValues }
     ensures meets { MeetOfValues }
+{}
+
+/// The starts of joins and meets have the coordinates of those objects, and so they have without the entries that lack
+/// a term.
+pub fn starts()
+    ensures joins { StartsOfJoin }
+    ensures meets { StartsOfMeet }
+    ensures zeros { ZeroEntries }
+{}
+
+/// The terms that a use adds are its multiple.
+pub fn additions()
+    ensures { AdditionsOfMultiple }
 {}
 
 /// The order of monomials is lexicographic, and the greatest monomial of a standard key's value tells the key.

@@ -61,7 +61,7 @@ module _ {A : Type 0} (R : A → A → Ordering) (o : IsTotalOrder R) (same : Is
         | false ↦ refl
       ]
 
-  length-ordered : (xs : List A) → length (ordered R xs) ≡ length xs
+  pub length-ordered : (xs : List A) → length (ordered R xs) ≡ length xs
   length-ordered [] = refl
   length-ordered (x ∷ xs) = length-place x (ordered R xs) ∙ ap suc (length-ordered xs)
 
@@ -72,14 +72,15 @@ module _ {A : Type 0} (R : A → A → Ordering) (o : IsTotalOrder R) (same : Is
       length-place r (ordered R (rs ++ xs)) ∙ ap suc (same_length rs xs ys e)
       ∙ sym (length-place r (ordered R (rs ++ ys)))
 
-  keeps : (rs xs ys : List A) → length xs ≡ length ys
+  -- the same items in both change no comparison
+  pub keeps : (rs xs ys : List A) → length xs ≡ length ys
       → slice_cmp R (ordered R (rs ++ xs)) (ordered R (rs ++ ys)) ≡ slice_cmp R (ordered R xs) (ordered R ys)
   keeps [] xs ys e = refl
   keeps (r ∷ rs) xs ys e =
       place_keeps r (ordered R (rs ++ xs)) (ordered R (rs ++ ys)) (same_length rs xs ys e) ∙ keeps rs xs ys e
 
   -- a pair in order
-  pair_in_order : (a b : A) → is_gt (R a b) ≡ false → ordered R (a ∷ b ∷ []) ≡ a ∷ b ∷ []
+  pub pair_in_order : (a b : A) → is_gt (R a b) ≡ false → ordered R (a ∷ b ∷ []) ≡ a ∷ b ∷ []
   pair_in_order a b e = ap (λ s. cond s (b ∷ a ∷ []) (a ∷ b ∷ [])) e
 
   less_head : (x a : A) (xs ys : List A) → R x a ≡ Less → slice_cmp R (x ∷ xs) (a ∷ ys) ≡ Less

@@ -12,6 +12,7 @@ use Rattle.std.specs.Ordering.{ordering_then, ordering_reverse}
 use Rattle.coordinate_model.specs.Key.{IsRow, row_cmp}
 use Rattle.coordinate_model.proofs.Increasing.{IsIncreasing, increasing_all, increasing_next}
 use Rattle.coordinate_model.proofs.Sorting.{gt-lt}
+use Rattle.tableau_order.specs.Tableaux.{IsTableau}
 use Rattle.tableau_order.specs.Standard.{row_at}
 use Rattle.tableau_order.specs.Violations.{beta_at, SplitsAtFall, SplitsAtViolation}
 
@@ -86,7 +87,7 @@ splits_at_fall d j low high rank low_is high_is g f =
 
 -- ---- in a tableau
 
-row_of : (d : ℕ) (rows : List (List ℕ)) → AllByRecursion (IsRow d) rows → (i : ℕ) → i < length rows
+pub row_of : (d : ℕ) (rows : List (List ℕ)) → AllByRecursion (IsRow d) rows → (i : ℕ) → i < length rows
     → IsRow d (row_at rows i)
 row_of d [] h i l = absurd (omega arith)
 row_of d (r ∷ rows) h zero l = h.0
@@ -97,11 +98,17 @@ not_above x y Less e h = absurd (true≢false h)
 not_above x y Equal e h = ap is_gt (nat_list_cmp_total.antisymm x y ∙ ap ordering_reverse e)
 not_above x y Greater e h = ap is_gt (nat_list_cmp_total.antisymm x y ∙ ap ordering_reverse e)
 
+-- a row of a tableau is not greater than the next
+pub next_not_above : (d i : ℕ) (rows : List (List ℕ)) → IsTableau d rows → i + 1 < length rows
+    → is_gt (row_cmp (row_at rows i) (row_at rows (i + 1))) ≡ false
+next_not_above d i rows t within =
+    not_above (row_at rows i) (row_at rows (i + 1)) (row_cmp (row_at rows (i + 1)) (row_at rows i)) refl
+    (t.ascending i [] (omega arith) within)
+
 pub splits_at_violation : SplitsAtViolation
 splits_at_violation d i j rows t v =
     let within : i + 1 < length rows = v.within in
     splits_at_fall d j (row_at rows i) (row_at rows (i + 1)) t.rank (row_of d rows t.each i (omega arith))
     (row_of d rows t.each (i + 1) within)
-    (not_above (row_at rows i) (row_at rows (i + 1)) (row_cmp (row_at rows (i + 1)) (row_at rows i)) refl
-    (t.ascending i [] (omega arith) within))
+    (next_not_above d i rows t within)
     v.fall

@@ -4,12 +4,12 @@ use Rattle.std.proofs.Common.{length-append}
 use Rattle.std.proofs.lemmas.List.{length-take-le}
 use mir.Val.{to_z, of_z}
 use Rattle.std.proofs.Common.{ℤ, pos, negsuc, cond, w8}
-use Rattle.coordinate_model.specs.Sequences.{is_odd}
+use Rattle.coordinate_model.specs.Sequences.{is_odd, sign_of}
 use Rattle.std.specs.List.Sorted.{IsStrictlyIncreasing}
 use Rattle.coordinate_model.specs.Sequences.{repeats}
 use Rattle.coordinate_model.specs.Syzygy.{sorted}
 use Rattle.coordinate_model.proofs.StdSort.{increasing-repeats}
-use Rattle.bracket_terms.specs.Joins.{points_of, share_point, sign_of}
+use Rattle.bracket_terms.specs.Joins.{points_of, share_point}
 use Rattle.bracket_terms.specs.declared.extensor.Extensor.{Extensor}
 use Rattle.bracket_terms.proofs.SignLaws.{sorted_by_std, repeats_where, repeats_nowhere}
 use Rattle.bracket_terms.proofs.ExtensorLaws.{repeats-append, some_coordinates, none_coordinates, in_front}
