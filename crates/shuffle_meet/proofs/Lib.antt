@@ -1,0 +1,13 @@
+pub mod Reached
+pub mod Added
+pub mod Parts
+pub mod SeenLaws
+pub mod Sifting
+pub mod JoinSteps
+pub mod Items
+pub mod Answered
+pub mod Pairs
+pub mod SizeLaws
+pub mod ObjectSizes
+pub mod MeetSteps
+pub mod FreePoints

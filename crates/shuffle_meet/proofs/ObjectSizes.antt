@@ -1,0 +1,167 @@
+-- Each product of a join or of a meet has the points and parameters of the two values, and the rows and degree of both.
+use Rattle.std.specs.Prelude.{◌≡◌, ℕ, ◌+◌, ◌-◌, ◌<◌, ◌≤◌, ◌==◌, Bool, true, false, cond, List, [], ◌∷◌, ◌++◌, flat_map, length, Some, None, ◌*ℤ◌}
+use Rattle.std.specs.List.{AllByRecursion}
+use Rattle.std.proofs.Common.{refl, sym, subst, arith, length-append, eq-eqb, eqb-true}
+use Rattle.std.specs.Ordering.{nat_cmp}
+use Rattle.coordinate_model.specs.Sequences.{range, splits, at_places, repeats, sign_of}
+use Rattle.coordinate_model.specs.BracketPolynomial.{AllKeys}
+use Rattle.coordinate_model.specs.Syzygy.{sorted}
+use Rattle.coordinate_model.specs.Value.{Value as Listed, HasStep}
+use Rattle.coordinate_model.specs.Starts.{Product, Entry, join_product, join_products, meet_product, meet_products}
+use Rattle.coordinate_model.proofs.SortedRows.{all_ordered}
+use Rattle.bracket_terms.specs.declared.extensor.Extensor.{Extensor}
+use Rattle.bracket_poly.specs.declared.value.Value.{Value}
+use Rattle.bracket_poly.specs.Kept.{TrackedOf}
+use Rattle.bracket_poly.specs.Products.{HasDegree, ExponentsFit}
+use Rattle.bracket_poly.proofs.Degrees.{exponents_fit}
+use Rattle.bracket_poly.specs.Values.{value_of}
+use Rattle.shuffle_meet.specs.Sizes.{KeyWithin, EntryWithin, IsWithin}
+use Rattle.shuffle_meet.specs.Stops.{tracked_entries}
+use Rattle.shuffle_meet.specs.Seen.{seen}
+use Rattle.shuffle_meet.specs.Objects.{AreJoined, ProductsFit, joined, met, AddsSizes, rows_of_join}
+use Rattle.shuffle_meet.proofs.SeenLaws.{Entries}
+use Rattle.shuffle_meet.proofs.SizeLaws.{ProductWithin, within_product, within_entries, all_flat, all_from, all_joined, all_at_places}
+use Rattle.shuffle_meet.proofs.Answered.{steps_of}
+
+module _ (points parameters : ℕ) where
+  -- an entry of the model with such points and keys
+  pub record HasSize (rows degree : ℕ) (t : Entry) : Type 0 where
+    pub points_below : AllByRecursion (λ p. p < points) t.0
+    pub keys : AllKeys (KeyWithin points parameters rows degree) t.1
+
+  of_code : {d : ℕ} (rows degree : ℕ) (es : Entries d) → IsWithin points parameters rows degree es
+      → AllByRecursion (HasSize rows degree) (value_of es)
+  of_code rows degree [] h = tt
+  of_code rows degree (e ∷ es) h =
+      (record { points_below = h.0.points_below; keys = h.0.keys }, of_code rows degree es h.1)
+
+  module _ (r m s n : ℕ) where
+    -- the products of the join of two entries
+    join_pair : (d more : ℕ) (e f : Entry) → HasSize r m e → HasSize s n f → (length (e.0 ++ f.0) ≡ d → 1 ≤ more)
+        → AllByRecursion (ProductWithin points parameters (r + s + more) (m + n)) (join_product d e f)
+    join_pair d more e f h i room = step (repeats ps) (length ps == d) refl
+      where
+        ps : List ℕ
+        ps = e.0 ++ f.0
+
+        below : AllByRecursion (λ p. p < points) ps
+        below = all_joined (λ p. p < points) e.0 f.0 h.points_below i.points_below
+
+        sorted_below : AllByRecursion (λ p. p < points) (sorted ps)
+        sorted_below = all_ordered nat_cmp (λ p. p < points) ps below
+
+        full : Product
+        full = record { extensor = []; left = e.1; right = f.1; row = Some (sorted ps); sign = sign_of ps }
+
+        part : Product
+        part = record { extensor = sorted ps; left = e.1; right = f.1; row = None; sign = sign_of ps }
+
+        step : (b c : Bool) → (length ps == d) ≡ c
+            → AllByRecursion (ProductWithin points parameters (r + s + more) (m + n)) (cond b [] (cond c (full ∷ []) (part ∷ [])))
+        step true c q = tt
+        step false true q = (
+          within_product points parameters r m s n more full tt h.keys i.keys (room (eqb-true (length ps) d q)) (sorted_below, tt),
+          tt,
+        )
+        step false false q =
+            (within_product points parameters r m s n more part sorted_below h.keys i.keys (omega arith) tt, tt)
+
+    -- and of the meet at one split
+    meet_pair : (e f : Entry) (t : List ℕ × List ℕ) → HasSize r m e → HasSize s n f
+        → AllByRecursion (ProductWithin points parameters (r + s + 1) (m + n)) (meet_product e f t)
+    meet_pair e f t h i = step (repeats ps)
+      where
+        ps : List ℕ
+        ps = at_places e.0 t.0 ++ f.0
+
+        below : AllByRecursion (λ p. p < points) ps
+        below =
+            all_joined (λ p. p < points) (at_places e.0 t.0) f.0 (all_at_places (λ p. p < points) e.0 t.0 h.points_below)
+            i.points_below
+
+        product : Product
+        product = record {
+          extensor = at_places e.0 t.1;
+          left = e.1;
+          right = f.1;
+          row = Some (sorted ps);
+          sign = sign_of (t.0 ++ t.1) *ℤ sign_of ps;
+        }
+
+        step : (b : Bool) → AllByRecursion (ProductWithin points parameters (r + s + 1) (m + n)) (cond b [] (product ∷ []))
+        step true = tt
+        step false = (
+          within_product points parameters r m s n 1 product (all_at_places (λ p. p < points) e.0 t.1 h.points_below) h.keys
+              i.keys (omega arith) (all_ordered nat_cmp (λ p. p < points) ps below, tt),
+          tt,
+        )
+
+    joins_within : (d a b : ℕ) (A B : Listed) → HasStep a A → HasStep b B → AllByRecursion (HasSize r m) A
+        → AllByRecursion (HasSize s n) B
+        → AllByRecursion (ProductWithin points parameters (r + s + cond (a + b == d) 1 0) (m + n)) (join_products d A B)
+    joins_within d a b [] B p q h i = tt
+    joins_within d a b (e ∷ A) B p q h i =
+        all_joined _ (flat_map (join_product d e) B) (join_products d A B) (others B q i) (joins_within d a b A B p.1 q h.1 i)
+      where
+        room : (f : Entry) → length f.0 ≡ b → length (e.0 ++ f.0) ≡ d → 1 ≤ cond (a + b == d) 1 0
+        room f l k =
+            let size : a + b ≡ d = omega (arith, length-append e.0 f.0, p.0) in
+            subst (λ (c : Bool). 1 ≤ cond c 1 0) (sym (eq-eqb (a + b) d size)) (omega arith)
+
+        others : (C : Listed) → HasStep b C → AllByRecursion (HasSize s n) C
+            → AllByRecursion (ProductWithin points parameters (r + s + cond (a + b == d) 1 0) (m + n)) (flat_map (join_product d e) C)
+        others [] q i = tt
+        others (f ∷ C) q i =
+            all_joined _ (join_product d e f) (flat_map (join_product d e) C)
+            (join_pair d (cond (a + b == d) 1 0) e f h.0 i.0 (room f q.0)) (others C q.1 i.1)
+
+    meets_within : (d : ℕ) (A B : Listed) → AllByRecursion (HasSize r m) A → AllByRecursion (HasSize s n) B
+        → AllByRecursion (ProductWithin points parameters (r + s + 1) (m + n)) (meet_products d A B)
+    meets_within d A B h i =
+        all_flat _ _ A (all_from (HasSize r m) _ (λ e x. all_flat _ _ B (all_from (HasSize s n) _ (λ f y. parts e f x y) B i)) A h)
+      where
+        parts : (e f : Entry) → HasSize r m e → HasSize s n f
+            → AllByRecursion (ProductWithin points parameters (r + s + 1) (m + n))
+            (flat_map (meet_product e f) (splits (d - length f.0) (range (length e.0))))
+        parts e f x y = each (splits (d - length f.0) (range (length e.0)))
+          where
+            each : (ts : List (List ℕ × List ℕ))
+                → AllByRecursion (ProductWithin points parameters (r + s + 1) (m + n)) (flat_map (meet_product e f) ts)
+            each [] = tt
+            each (t ∷ ts) = all_joined _ (meet_product e f t) (flat_map (meet_product e f) ts) (meet_pair e f t x y) (each ts)
+
+pub join_sizes : (d : ℕ) (a b c : Value d) → AreJoined d a.step b.step → seen c.entries ≡ tracked_entries (joined a b)
+    → AddsSizes (rows_of_join a b) a b c
+join_sizes d a b c h e points parameters r m s n x y =
+    within_entries points parameters (r + s + rows_of_join a b) (m + n) c.entries (joined a b) e
+    (joins_within points parameters r m s n d a.step b.step (value_of a.entries) (value_of b.entries)
+    (steps_of d a h.first_below) (steps_of d b h.second_below) (of_code points parameters r m a.entries x)
+    (of_code points parameters s n b.entries y))
+
+pub meet_sizes : (d : ℕ) (a b c : Value d) → seen c.entries ≡ tracked_entries (met a b) → AddsSizes 1 a b c
+meet_sizes d a b c e points parameters r m s n x y =
+    within_entries points parameters (r + s + 1) (m + n) c.entries (met a b) e
+    (meets_within points parameters r m s n d (value_of a.entries) (value_of b.entries)
+    (of_code points parameters r m a.entries x) (of_code points parameters s n b.entries y))
+
+-- values whose exponents are small can be joined and can meet
+pub products_fit : (d points parameters r m s n : ℕ) (a b : Value d) → m + n ≤ 65535
+    → IsWithin points parameters r m a.entries → IsWithin points parameters s n b.entries → ProductsFit a b
+products_fit d points parameters r m s n a b room h k = each a.entries h
+  where
+    degree : (i : ℕ) (e : Extensor × TrackedOf d) (rows : ℕ) → EntryWithin points parameters rows i e
+        → HasDegree i e.1.tracked.sum
+    degree i e rows w =
+        all_from (λ t. KeyWithin points parameters rows i t.0) (λ t. AllByRecursion (λ x. x ≤ i) t.0.exponents)
+        (λ t x. x.small) e.1.tracked.sum.terms w.keys
+
+    inner : (e : Extensor × TrackedOf d) (fs : Entries d) → HasDegree m e.1.tracked.sum → IsWithin points parameters s n fs
+        → AllByRecursion (λ f. ExponentsFit e.1.tracked.sum f.1) (value_of fs)
+    inner e [] x y = tt
+    inner e (f ∷ fs) x y =
+        (exponents_fit m n e.1.tracked.sum f.1.tracked.sum room x (degree n f s y.0), inner e fs x y.1)
+
+    each : (es : Entries d) → IsWithin points parameters r m es
+        → AllByRecursion (λ e. AllByRecursion (λ f. ExponentsFit e.1 f.1) (value_of b.entries)) (value_of es)
+    each [] x = tt
+    each (e ∷ es) x = (inner e b.entries (degree m e r x.0) k, each es x.1)
