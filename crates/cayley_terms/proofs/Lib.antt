@@ -1,0 +1,17 @@
+pub mod Names
+pub mod Growth
+pub mod ObjectSteps
+pub mod StatementSteps
+pub mod BuiltLaws
+pub mod Made
+pub mod Inner
+pub mod Measured
+pub mod Sound
+pub mod Objects
+pub mod Chains
+pub mod Claims
+pub mod Rows
+pub mod Whole
+pub mod ProgramLaws
+pub mod StepLists
+pub mod Places

@@ -1,0 +1,14 @@
+pub mod Named
+pub mod Figures
+pub mod Meaning
+pub mod Instrs
+pub mod Programs
+pub mod Straight
+pub mod Built
+pub mod Kept
+pub mod Starts
+pub mod Listed
+pub mod Pairs
+pub mod Room
+pub mod Steps
+pub mod ProgramLaws

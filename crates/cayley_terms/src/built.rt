@@ -1,0 +1,52 @@
+//! Which forms are lowered so far.
+
+ghost use Rattle.std.specs.Prelude.{◌≡◌, ◌↔◌, IsNone};
+ghost use Rattle.construction_reader.specs.Said.{recipe, claim as said_claim, sentence, row};
+ghost use Rattle.construction_reader.specs.Seen.{account};
+ghost use Rattle.cayley_terms.specs.Built.{is_built_recipe, is_built_claim, is_built_sentence, is_built, IsBuilt, unbuilt_line};
+
+use construction_reader::{Body, Conclusion, Expr, Statement};
+use step_types::Checked;
+
+fn is_built_recipe(expr: &Expr) -> bool
+    ensures { result ≡ is_built_recipe (recipe expr.now) }
+{
+    matches!(expr, Expr::Join(_, _) | Expr::Meet(_, _))
+}
+
+fn is_built_claim(claim: &Conclusion) -> bool
+    ensures { result ≡ is_built_claim (said_claim claim.now) }
+{
+    match claim {
+        Conclusion::Collinear { .. } | Conclusion::Incident { .. } => true,
+        Conclusion::Concurrent { args } => args.items().len() == 3,
+        Conclusion::Coplanar { .. } | Conclusion::Meeting { .. } | Conclusion::Conic { .. } => {
+            false
+        }
+    }
+}
+
+fn is_built(rank: u8, statement: &Statement) -> bool
+    ensures { result ≡ is_built rank (row statement.now) }
+{
+    rank == 3
+        && match &statement.body {
+            Body::Free(_) => true,
+            Body::Define { expr, .. } => is_built_recipe(expr),
+            Body::Conclude(claim) => is_built_claim(claim),
+        }
+}
+
+/// The line of the first statement of a form that `lower` does not take yet.
+pub fn first_unbuilt(c: &Checked) -> Option<u32>
+    ensures line { result ≡ unbuilt_line (account c.now) }
+    ensures none { IsNone result ↔ IsBuilt (account c.now) }
+{
+    let construction = c.construction();
+    for statement in construction.statements.items() {
+        if !is_built(construction.rank, statement) {
+            return Some(statement.line);
+        }
+    }
+    None
+}

@@ -1,0 +1,22 @@
+//! Constructions as straight lists of joins and meets.
+#![tactic(auto)]
+
+mod built;
+mod instr;
+mod items;
+pub mod laws;
+mod lowering;
+mod numbers;
+mod pair;
+mod program;
+mod steps;
+mod straight;
+
+pub use built::first_unbuilt;
+pub use instr::Instr;
+pub use items::Items;
+pub use program::Program;
+pub use straight::lower;
+
+#[cfg(test)]
+mod tests;

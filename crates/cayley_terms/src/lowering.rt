@@ -1,0 +1,210 @@
+//! The straight list so far, and what statements add to it.
+
+ghost use Rattle.std.specs.Prelude.{◌≡◌, ◌∷◌, [], ◌++◌, map, fold, IfOk, OnOk, IsTrue, None, Some};
+ghost use Rattle.construction_reader.specs.Said.{object, objects, recipe, claim as said_claim, sentence, row};
+ghost use Rattle.cayley_terms.specs.Built.{is_built_recipe, is_built_claim, is_built_sentence};
+ghost use Rattle.cayley_terms.specs.Pairs.{pair_instr, objects_from_left};
+ghost use Rattle.cayley_terms.specs.Room.{Fits};
+ghost use Rattle.cayley_terms.specs.Straight.{nothing, pushed, object_lowered, objects_lowered, recipe_lowered, from_left_lowered, claim_lowered, point_lowered, ended, sentence_lowered, row_lowered};
+
+use crate::instr::Instr;
+use crate::numbers::Numbers;
+use crate::pair::Pair;
+use cay_base::NoMemory;
+use construction_reader::{Arg, Body, Conclusion, Expr, Name, Statement};
+use std::alloc::Global;
+use std::marker::Model;
+
+/// What has been lowered up to a place of a construction.
+#[derive(Drop)]
+pub struct Lowering {
+    pub instrs: Vec<Instr>,
+    /// The line of the statement of each instruction.
+    pub lines: Vec<u32>,
+    /// For an instruction that ends a definition, the definition's number.
+    pub defined: Vec<Option<u32>>,
+    numbers: Numbers,
+    points: u8,
+    definitions: u32,
+}
+
+impl Model for Lowering {
+    ghost use Rattle.cayley_terms.specs.Straight.{Lowered};
+
+    ghost Value = { Lowered };
+
+    ghost view = { λ l. record {
+      instrs = l.instrs.items;
+      lines = l.lines.items;
+      defined = l.defined.items;
+      numbers = l.numbers;
+      points = l.points;
+      definitions = l.definitions;
+    } };
+}
+
+impl Lowering {
+    pub fn new(alloc: Global) -> Self
+        ensures { result ≡ nothing }
+    {
+        Lowering {
+            instrs: Vec::new(alloc),
+            lines: Vec::new(alloc),
+            defined: Vec::new(alloc),
+            numbers: Numbers::new(alloc),
+            points: 0,
+            definitions: 0,
+        }
+    }
+
+    /// Adds an instruction of a statement on this line, which may end this definition, and answers its number.
+    fn push(&mut self, line: u32, ends: Option<u32>, instr: Instr) -> Result<u32, NoMemory>
+        requires { Fits (pushed line ends instr self.old).0 }
+        ensures { IfOk result (λ number. (self.new, number) ≡ pushed line ends instr self.old) }
+    {
+        let number = self.instrs.len() as u32;
+        self.instrs.push(instr)?;
+        self.lines.push(line)?;
+        self.defined.push(ends)?;
+        Ok(number)
+    }
+
+    /// Adds the joins and meets of an object, and answers the number of the instruction that makes it.
+    fn object(&mut self, line: u32, arg: &Arg) -> Result<u32, NoMemory>
+        requires { Fits (object_lowered line (object arg.now) self.old).0 }
+        ensures { IfOk result (λ number. (self.new, number) ≡ object_lowered line (object arg.now) self.old) }
+    {
+        match arg {
+            Arg::Named(name) => Ok(self.numbers.get(name.bytes())),
+            Arg::Join(a, b) => {
+                let first = self.object(line, a)?;
+                let second = self.object(line, b)?;
+                self.push(line, None, Instr::Join(first, second))
+            }
+            Arg::Meet(a, b) => {
+                let first = self.object(line, a)?;
+                let second = self.object(line, b)?;
+                self.push(line, None, Instr::Meet(first, second))
+            }
+        }
+    }
+
+    fn objects(&mut self, alloc: Global, line: u32, args: &[Arg]) -> Result<Vec<u32>, NoMemory>
+        requires { Fits (objects_lowered line (objects args.now) self.old).0 }
+        ensures { IfOk result (λ numbers. (self.new, numbers.items) ≡ objects_lowered line (objects args.now) self.old) }
+    {
+        let mut numbers = Vec::new(alloc);
+        for arg in args {
+            let number = self.object(line, arg)?;
+            numbers.push(number)?;
+        }
+        Ok(numbers)
+    }
+
+    /// Adds the arguments of an expression, and answers the instruction that makes it of them.
+    fn recipe(&mut self, line: u32, expr: &Expr) -> Result<Instr, NoMemory>
+        requires built { IsTrue (is_built_recipe (recipe expr.now)) }
+        requires room { Fits (recipe_lowered [] line (recipe expr.now) self.old).0 }
+        ensures { IfOk result (λ instr. (self.new, instr) ≡ recipe_lowered [] line (recipe expr.now) self.old) }
+    {
+        match expr {
+            Expr::Join(a, b) => {
+                let first = self.object(line, a)?;
+                let second = self.object(line, b)?;
+                Ok(Instr::Join(first, second))
+            }
+            Expr::Meet(a, b) => {
+                let first = self.object(line, a)?;
+                let second = self.object(line, b)?;
+                Ok(Instr::Meet(first, second))
+            }
+            Expr::On { .. } | Expr::Pascal { .. } => unreachable!(),
+        }
+    }
+
+    /// Adds what the joins or meets from the left make.
+    fn from_left(&mut self, line: u32, pair: Pair, numbers: &[u32]) -> Result<(), NoMemory>
+        requires { Fits (from_left_lowered (pair_instr pair) line numbers.now self.old).0 }
+        ensures { OnOk result (self.new ≡ (from_left_lowered (pair_instr pair) line numbers.now self.old).0) }
+    {
+        if let [first, others @ ..] = numbers {
+            let mut made = *first;
+            for other in others {
+                made = self.push(line, None, pair.of(made, *other))?;
+            }
+        }
+        Ok(())
+    }
+
+    /// Adds objects, and what the joins or meets from the left make of them.
+    fn chain(&mut self, alloc: Global, line: u32, pair: Pair, args: &[Arg]) -> Result<(), NoMemory>
+        requires { Fits (objects_from_left pair line (objects args.now) self.old) }
+        ensures { OnOk result (self.new ≡ objects_from_left pair line (objects args.now) self.old) }
+    {
+        let numbers = self.objects(alloc, line, args)?;
+        self.from_left(line, pair, &numbers)
+    }
+
+    #[tactic(auto, unfolding(crate::specs::Straight::claim_lowered))]
+    fn claim(&mut self, alloc: Global, line: u32, claim: &Conclusion) -> Result<(), NoMemory>
+        requires built { IsTrue (is_built_claim (said_claim claim.now)) }
+        requires room { Fits (claim_lowered line (said_claim claim.now) self.old).0 }
+        ensures { OnOk result (self.new ≡ (claim_lowered line (said_claim claim.now) self.old).0) }
+    {
+        match claim {
+            Conclusion::Collinear { args }
+            | Conclusion::Coplanar { args }
+            | Conclusion::Meeting { args }
+            | Conclusion::Incident { args } => self.chain(alloc, line, Pair::Join, args.items()),
+            Conclusion::Concurrent { args } => self.chain(alloc, line, Pair::Meet, args.items()),
+            Conclusion::Conic { .. } => unreachable!(),
+        }
+    }
+
+    /// Adds a free point.
+    fn point(&mut self, alloc: Global, line: u32, name: &Name) -> Result<(), NoMemory>
+        requires { Fits (point_lowered line self.old name.now) }
+        ensures { OnOk result (self.new ≡ point_lowered line self.old name.now) }
+    {
+        let number = self.push(line, None, Instr::Free(self.points))?;
+        self.numbers.add(alloc, name.bytes(), number)?;
+        self.points += 1;
+        Ok(())
+    }
+
+    fn points(&mut self, alloc: Global, line: u32, names: &[Name]) -> Result<(), NoMemory>
+        requires { Fits (fold (point_lowered line) self.old names.now) }
+        ensures { OnOk result (self.new ≡ fold (point_lowered line) self.old names.now) }
+    {
+        for name in names {
+            self.point(alloc, line, name)?;
+        }
+        Ok(())
+    }
+
+    fn define(&mut self, alloc: Global, line: u32, name: &Name, expr: &Expr) -> Result<(), NoMemory>
+        requires built { IsTrue (is_built_recipe (recipe expr.now)) }
+        requires room { Fits (ended line name.now (recipe_lowered [] line (recipe expr.now) self.old)) }
+        ensures { OnOk result (self.new ≡ ended line name.now (recipe_lowered [] line (recipe expr.now) self.old)) }
+    {
+        let instr = self.recipe(line, expr)?;
+        let number = self.push(line, Some(self.definitions), instr)?;
+        self.numbers.add(alloc, name.bytes(), number)?;
+        self.definitions += 1;
+        Ok(())
+    }
+
+    /// Adds the instructions of a statement.
+    pub fn statement(&mut self, alloc: Global, statement: &Statement) -> Result<(), NoMemory>
+        requires built { IsTrue (is_built_sentence (sentence statement.now.body)) }
+        requires room { Fits (row_lowered [] self.old (row statement.now)) }
+        ensures { OnOk result (self.new ≡ row_lowered [] self.old (row statement.now)) }
+    {
+        let line = statement.line;
+        match &statement.body {
+            Body::Free(names) => self.points(alloc, line, names.items()),
+            Body::Define { name, expr, .. } => self.define(alloc, line, name, expr),
+            Body::Conclude(claim) => self.claim(alloc, line, claim),
+        }
+    }
+}
