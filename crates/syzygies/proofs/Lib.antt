@@ -1,0 +1,9 @@
+pub mod Additions
+pub mod CollectedLaws
+pub mod EightBits
+pub mod Falls
+pub mod PartialSums
+pub mod Rewriting
+pub mod Rows
+pub mod SplitTermLaws
+pub mod Splits

@@ -1,0 +1,4 @@
+pub mod Terms
+pub mod SplitTerms
+pub mod Collected
+pub mod Places
