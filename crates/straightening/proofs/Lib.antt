@@ -1,0 +1,10 @@
+pub mod Options
+pub mod FirstViolations
+pub mod TermLists
+pub mod Rewritings
+pub mod TurnLaws
+pub mod RunLemmas
+pub mod UseLemmas
+pub mod NextUses
+pub mod AddLemmas
+pub mod SoFar
