@@ -1,7 +1,7 @@
-//! A whole program, worked by hand from the rules.
+//! A whole program, and the forms that are lowered, worked by hand from the rules.
 
 use super::*;
-use construction_reader::read;
+use construction_reader::{LONGEST, read};
 use std::test::Fail;
 use step_types::check;
 
@@ -37,5 +37,39 @@ fn three_lines(rt: HostRuntime) -> Result<(), Fail> {
         assert_eq!(rt; program.lines.items().get(number), Some(&line));
         assert_eq!(rt; program.defined.items().get(number), Some(&ends));
     }
+    Ok(())
+}
+
+#[test]
+fn forms(rt: HostRuntime) -> Result<(), Fail> {
+    let alloc = rt.alloc();
+    let cases: [(&[u8], Option<u32>); 5] = [
+        (
+            b"construction 1\nrank 3\nfree A B C\nline l = join A B\n\nconclude incident C l\n",
+            None,
+        ),
+        (
+            b"construction 1\nrank 3\nfree A B\npoint X = on A B with s t\nconclude collinear A B X\n",
+            Some(4),
+        ),
+        (
+            b"construction 1\nrank 3\nfree A B C D E Q\npoint F = pascal A B C D E through Q\nconclude conic A B C D E F\n",
+            Some(4),
+        ),
+        (
+            b"construction 1\nrank 3\nfree A B C D E F\n\nconclude conic A B C D E F\n",
+            Some(5),
+        ),
+        (
+            b"construction 1\nrank 4\nfree A B C D\nconclude coplanar A B C D\n",
+            Some(3),
+        ),
+    ];
+    for (text, line) in cases {
+        assert!(rt; text.len() <= LONGEST);
+        let checked = check(alloc, read(alloc, text)?)?;
+        assert_eq!(rt; first_unbuilt(&checked), line);
+    }
+    laws::programs();
     Ok(())
 }

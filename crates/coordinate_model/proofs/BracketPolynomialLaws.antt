@@ -1,5 +1,6 @@
 -- The laws of brackets of free points, and values of bracket polynomials: of sums, of products and of syzygies.
-use Rattle.std.proofs.Common.{◌≡◌, ℕ, ◌+◌, true, false, Bool, cond, List, [], ◌∷◌, map, length, refl, sym, ap, ap₂}
+use Rattle.std.proofs.Common.{◌≡◌, ℕ, zero, suc, ◌+◌, true, false, Bool, cond, List, [], ◌∷◌, map, length, replicate}
+use Rattle.std.proofs.Common.{refl, sym, ap, ap₂}
 use Rattle.std.proofs.Common.{◌∙◌, subst, nat_cmp}
 use Rattle.std.proofs.lemmas.List.{length-map}
 use Rattle.coordinate_model.specs.Ring.{IsHom}
@@ -7,9 +8,9 @@ use Rattle.coordinate_model.specs.Sequences.{repeats, IsRank}
 use Rattle.coordinate_model.specs.Brackets.{bracket, signed, syzygy}
 use Rattle.coordinate_model.specs.Words.{ordered}
 use Rattle.coordinate_model.specs.Sums.{Terms, single, sum_of, sum_value}
-use Rattle.coordinate_model.specs.Polynomial.{Polynomials, free_point, br}
-use Rattle.coordinate_model.specs.Key.{Key, key_cmp, key_value, key_times, rows_key}
-use Rattle.coordinate_model.specs.BracketPolynomial.{KeySums, value}
+use Rattle.coordinate_model.specs.Polynomial.{Polynomials, monomial, free_point, br}
+use Rattle.coordinate_model.specs.Key.{Key, key_cmp, key_value, key_times, rows_key, powers}
+use Rattle.coordinate_model.specs.BracketPolynomial.{KeySums, BracketPolynomial, value}
 use Rattle.coordinate_model.specs.Syzygy.{sorted_bracket, syz, use_term, multiple, AreSizes}
 use Rattle.coordinate_model.specs.SyzygyLaws.{SortedBracket, ValueOfSorted, SyzygyOfFreePoints, ValueOfSyzygy}
 use Rattle.coordinate_model.specs.SyzygyLaws.{ValueOfMultiple}
@@ -67,6 +68,21 @@ value_of_product = value-hom.to_mul
 pub value_of_single : (k : Key) → value (single key_cmp k) ≡ key_value k
 unfolding value
 value_of_single = value-single key_cmp key_total key_same Polynomials polynomial_ring key_value
+
+-- the value of no term, and of 1 as a polynomial of n parameters
+pub value_of_none : (f : BracketPolynomial) → f.terms ≡ [] → value f ≡ Polynomials.𝟘
+unfolding value
+value_of_none f e = ap (sum_value Polynomials key_value) e
+
+powers-none : (i n : ℕ) → powers i (replicate n 0) ≡ []
+powers-none i zero = refl
+powers-none i (suc n) = powers-none (suc i) n
+
+pub value_of_one : (n : ℕ) → value (single key_cmp (record { exponents = replicate n 0; rows = [] })) ≡ Polynomials.𝟙
+unfolding key_value
+value_of_one n =
+    value_of_single (record { exponents = replicate n 0; rows = [] })
+    ∙ ap (λ vs. Polynomials.◌⊗◌ (monomial vs) Polynomials.𝟙) (powers-none 0 n) ∙ unit_value
 
 -- the value of a list of terms, in any order and number
 pub value_of_terms : (ts : Terms Key) → value (sum_of key_cmp ts) ≡ sum_value Polynomials key_value ts

@@ -1,3 +1,4 @@
+pub mod Agreement
 pub mod Alternating
 pub mod Bilinear
 pub mod Bools
@@ -21,6 +22,7 @@ pub mod IntegerRing
 pub mod JoinLaws
 pub mod KeyProducts
 pub mod KeySets
+pub mod KeySizes
 pub mod KeySumLaws
 pub mod KeyTests
 pub mod Keys
@@ -40,6 +42,7 @@ pub mod Sorting
 pub mod Splits
 pub mod StartKeys
 pub mod StartLaws
+pub mod StartSizes
 pub mod StdSort
 pub mod SumLemmas
 pub mod SumRing

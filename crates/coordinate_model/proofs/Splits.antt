@@ -1,5 +1,6 @@
 -- The sizes of the parts of splits, and of lists of entries.
-use Rattle.std.proofs.Common.{◌≡◌, ℕ, zero, suc, ◌+◌, ◌<◌, List, [], ◌∷◌, ◌++◌, map, length, refl, ap, ◌∙◌, arith}
+use Rattle.std.proofs.Common.{◌≡◌, ℕ, zero, suc, ◌+◌, ◌<◌, Bool, true, false, cond, List, [], ◌∷◌, ◌++◌, map, filter}
+use Rattle.std.proofs.Common.{flat_map, length, All, refl, ap, ◌∙◌, arith}
 use Rattle.std.specs.List.{AllByRecursion, cons_option}
 use Rattle.std.specs.Prelude.{slice_get}
 use Rattle.coordinate_model.specs.Sequences.{range_from, range, splits, at_places}
@@ -14,6 +15,55 @@ pub all_append : {A : Type 0} (P : A → Type 0) (xs ys : List A) → AllByRecur
     → AllByRecursion P (xs ++ ys)
 all_append P [] ys h k = k
 all_append P (x ∷ xs) ys h k = (h.0, all_append P xs ys h.1 k)
+
+-- what follows from what holds of all
+pub all_so : {A : Type 0} (P Q : A → Type 0) → ((a : A) → P a → Q a) → (xs : List A) → AllByRecursion P xs
+    → AllByRecursion Q xs
+all_so P Q f [] h = tt
+all_so P Q f (x ∷ xs) h = (f x h.0, all_so P Q f xs h.1)
+
+pub all_both : {A : Type 0} (P Q : A → Type 0) (xs : List A) → AllByRecursion P xs → AllByRecursion Q xs
+    → AllByRecursion (λ x. P x × Q x) xs
+all_both P Q [] h k = tt
+all_both P Q (x ∷ xs) h k = ((h.0, k.0), all_both P Q xs h.1 k.1)
+
+pub all_front : {A : Type 0} (P : A → Type 0) (xs ys : List A) → AllByRecursion P (xs ++ ys) → AllByRecursion P xs
+all_front P [] ys h = tt
+all_front P (x ∷ xs) ys h = (h.0, all_front P xs ys h.1)
+
+pub all_back : {A : Type 0} (P : A → Type 0) (xs ys : List A) → AllByRecursion P (xs ++ ys) → AllByRecursion P ys
+all_back P [] ys h = h
+all_back P (x ∷ xs) ys h = all_back P xs ys h.1
+
+pub all_of_map : {A B : Type 0} (P : B → Type 0) (f : A → B) (xs : List A) → AllByRecursion P (map f xs)
+    → AllByRecursion (λ x. P (f x)) xs
+all_of_map P f [] h = tt
+all_of_map P f (x ∷ xs) h = (h.0, all_of_map P f xs h.1)
+
+pub all_flat_map : {A B : Type 0} (P : A → Type 0) (Q : B → Type 0) (f : A → List B)
+    → ((a : A) → P a → AllByRecursion Q (f a)) → (xs : List A) → AllByRecursion P xs → AllByRecursion Q (flat_map f xs)
+all_flat_map P Q f g [] h = tt
+all_flat_map P Q f g (x ∷ xs) h = all_append Q (f x) (flat_map f xs) (g x h.0) (all_flat_map P Q f g xs h.1)
+
+pub all_filter : {A : Type 0} (P : A → Type 0) (test : A → Bool) (xs : List A) → AllByRecursion P xs
+    → AllByRecursion P (filter test xs)
+all_filter P test [] h = tt
+all_filter {A} P test (x ∷ xs) h = step (test x) (all_filter P test xs h.1)
+  where
+    step : (b : Bool) → AllByRecursion P (filter test xs)
+        → AllByRecursion P (cond {A = List A} b (x ∷ filter test xs) (filter test xs))
+    step true i = (h.0, i)
+    step false i = i
+
+-- what holds at each place holds of each item, and back
+pub all_items : {A : Type 0} (P : A → Type 0) (xs : List A) → All P xs → AllByRecursion P xs
+all_items P [] h = tt
+all_items P (x ∷ xs) h = (h 0 x (omega arith), all_items P xs (λ i d l. h (suc i) d (omega arith)))
+
+pub at_each : {A : Type 0} (P : A → Type 0) (xs : List A) → AllByRecursion P xs → All P xs
+at_each P [] h i d l = absurd (omega arith)
+at_each P (x ∷ xs) h zero d l = h.0
+at_each P (x ∷ xs) h (suc i) d l = at_each P xs h.1 i d (omega arith)
 
 -- t parts n entries, each with P, into k and the rest
 pub record IsSplit {A : Type 0} (P : A → Type 0) (k n : ℕ) (t : List A × List A) : Type 0 where

@@ -11,7 +11,7 @@ use lib.ListN.{length-append}
 use Rattle.coordinate_model.specs.Ring.{of_int}
 use Rattle.coordinate_model.specs.Sequences.{IsRank, columns, range, splits, subsets, at_places, is_odd, repeats}
 use Rattle.coordinate_model.specs.Sequences.{sign_of}
-use Rattle.coordinate_model.specs.Brackets.{sum_over, extensor, signed, join, meet}
+use Rattle.coordinate_model.specs.Brackets.{sum_over, signed, join, meet}
 use Rattle.coordinate_model.specs.Sums.{Terms, sum_of, sum_value}
 use Rattle.coordinate_model.specs.Polynomial.{Polynomial, Polynomials, free_point, br}
 use Rattle.coordinate_model.specs.Key.{Key, key_cmp, key_value, rows_key}
@@ -36,7 +36,7 @@ use Rattle.coordinate_model.proofs.BracketPolynomialLaws.{value_of_single}
 use Rattle.coordinate_model.proofs.Alternating.{extensor-sorted, extensor-repeats}
 use Rattle.coordinate_model.proofs.JoinLaws.{full-extensor}
 use Rattle.coordinate_model.proofs.Bilinear.{linear-joins, linear-meets}
-use Rattle.coordinate_model.proofs.ValueLaws.{free, total, same_total, of_values, join_free, meet_free}
+use Rattle.coordinate_model.proofs.ValueLaws.{free, free_none, total, same_total, of_values, join_free, meet_free}
 
 infixl 45 ◌⊕◌
 infixl 55 ◌⊗◌
@@ -118,10 +118,6 @@ full_extensor d ps r e = subst (All (λ K. free ps K ≡ br ps)) (sym (alone d r
         ap (λ n. free ps (columns n)) (sym l) ∙ full-extensor polynomial_ring (map free_point ps) (subst IsRank (sym l) r)
         ∙ sym (br-is ps)
     at_columns (suc i) x h = absurd (omega arith)
-
-free_none : (K : List ℕ) → free [] K ≡ 𝟙
-unfolding extensor
-free_none K = refl
 
 module _ (d : ℕ) (r : IsRank d) (e f : Entry) (few : length (e.0 ++ f.0) ≤ d) where
   abbrev ps : List ℕ

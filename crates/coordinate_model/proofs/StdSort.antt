@@ -21,7 +21,7 @@ least_rising : (x : ℕ) (xs : List ℕ) → IsLeast nat_cmp_total x xs → AllB
 least_rising x [] h = tt
 least_rising x (y ∷ ys) h = (ltb-false y x (sym (gt-lt x y) ∙ h.0), least_rising x ys h.1)
 
-ascending_rising : (xs : List ℕ) → IsAscending nat_cmp_total xs → IsRising xs
+pub ascending_rising : (xs : List ℕ) → IsAscending nat_cmp_total xs → IsRising xs
 ascending_rising [] h = tt
 ascending_rising (x ∷ xs) h = (least_rising x xs h.0, ascending_rising xs h.1)
 

@@ -6,7 +6,8 @@ use Rattle.std.proofs.lemmas.List.{length-map}
 use Rattle.std.specs.List.{AllByRecursion}
 use mathlib.Core.Path.{fun_ext}
 use Rattle.coordinate_model.specs.Sequences.{subsets, IsRank}
-use Rattle.coordinate_model.specs.Brackets.{Coords, sum_over, extensor, join, meet, on}
+use Rattle.coordinate_model.specs.Brackets.{Coords, sum_over, of_point, join_points, extensor, join}
+use Rattle.coordinate_model.specs.Brackets.{meet, on}
 use Rattle.coordinate_model.specs.Polynomial.{Polynomial, Polynomials, free_point}
 use Rattle.coordinate_model.specs.BracketPolynomial.{BracketPolynomial, mul, value}
 use Rattle.coordinate_model.specs.Value.{Value, HasStep, coordinates, meet_value, times_value, join_values, meet_values}
@@ -23,17 +24,41 @@ use Rattle.coordinate_model.proofs.MeetValues.{meet_value_law}
 
 infixl 45 ◌⊕◌
 infixl 55 ◌⊗◌
-open Polynomials use {𝟘, ◌⊕◌, ◌⊗◌}
+open Polynomials use {𝟘, 𝟙, ◌⊕◌, ◌⊗◌}
 
 -- the extensor of free points
 abbrev pub free : List ℕ → Coords Polynomials
 free us = extensor Polynomials (map free_point us)
+
+-- of no points, and of one
+pub free_none : (K : List ℕ) → free [] K ≡ 𝟙
+unfolding extensor
+free_none K = refl
+
+pub free_one : (i : ℕ) (K : List ℕ) → free (i ∷ []) K ≡ of_point Polynomials (free_point i) K
+unfolding extensor join_points
+free_one i K = refl
 
 -- the sum over the entries
 abbrev pub total : (Entry → Polynomial) → Value → Polynomial
 total f es = sum_over Polynomials f es
 
 -- ---- coordinates of values that are put together
+
+pub coordinates-none : (K : List ℕ) → coordinates [] K ≡ 𝟘
+unfolding coordinates
+coordinates-none K = refl
+
+pub coordinates-more : (e : Entry) (A : Value) (K : List ℕ)
+    → coordinates (e ∷ A) K ≡ value e.1 ⊗ free e.0 K ⊕ coordinates A K
+unfolding coordinates
+coordinates-more e A K = refl
+
+-- one entry without points
+pub coordinates-scalar : (f : BracketPolynomial) (K : List ℕ) → coordinates (([], f) ∷ []) K ≡ value f
+coordinates-scalar f K =
+    coordinates-more ([], f) [] K ∙ ap₂ ◌⊕◌ (ap (λ p. value f ⊗ p) (free_none K)) (coordinates-none K)
+    ∙ polynomial_ring.add_zero (value f ⊗ 𝟙) ∙ polynomial_ring.mul_one (value f)
 
 pub coordinates-append : (A B : Value) (K : List ℕ)
     → coordinates (A ++ B) K ≡ coordinates A K ⊕ coordinates B K

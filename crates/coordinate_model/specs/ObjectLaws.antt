@@ -112,3 +112,19 @@ LinearJoins R = (a : ℕ) → IsBilinear R (join R a)
 -- meets are bilinear, in a ring
 abbrev pub LinearMeets : Ops → Type 0
 LinearMeets R = (d a b : ℕ) → IsBilinear R (meet R d a b)
+
+-- two objects have the same coordinates at all sets of a columns in rank d
+abbrev pub AgreeOn : (R : Ops) → ℕ → ℕ → Coords R → Coords R → Type 0
+AgreeOn R d a A B = All (λ K. A K ≡ B K) (subsets d a)
+
+-- the join of objects of steps a and b is told by their coordinates at the sets of a and of b columns
+abbrev pub SameJoins : Ops → Type 0
+SameJoins R =
+    (d a b : ℕ) (A B C D : Coords R) → AgreeOn R d a A C → AgreeOn R d b B D
+    → AgreeOn R d (a + b) (join R a A B) (join R a C D)
+
+-- and so is the meet, at any columns
+abbrev pub SameMeets : Ops → Type 0
+SameMeets R =
+    (d a b : ℕ) (A B C D : Coords R) (K : List ℕ) → AgreeOn R d a A C → AgreeOn R d b B D
+    → meet R d a b A B K ≡ meet R d a b C D K

@@ -10,7 +10,7 @@ ghost use Rattle.coordinate_model.specs.SyzygyLaws.{SyzygyLaw, SyzygyOfFreePoint
 ghost use Rattle.coordinate_model.specs.SyzygyLaws.{PointsOfSyzygy, PointsOfMultiple};
 ghost use Rattle.coordinate_model.specs.SyzygyLaws.{ThreeTerms, ThreeTermsOfFreePoints};
 ghost use Rattle.coordinate_model.specs.ObjectLaws.{SortedExtensor, ZeroExtensor, FullExtensor, JoinLaw, LinearJoins};
-ghost use Rattle.coordinate_model.specs.ObjectLaws.{ShuffleLaw, MeetValue, LinearMeets};
+ghost use Rattle.coordinate_model.specs.ObjectLaws.{ShuffleLaw, MeetValue, LinearMeets, SameJoins, SameMeets};
 ghost use Rattle.coordinate_model.specs.ObjectLaws.{CombinationOfValues, JoinOfValues, MeetOfValues};
 ghost use Rattle.coordinate_model.specs.StartLaws.{StartsOfJoin, StartsOfMeet, ZeroEntries, AdditionsOfMultiple};
 ghost use Rattle.coordinate_model.specs.NormalLaws.{SamePolynomials, SameBracketPolynomials, HasCoefficients};
@@ -79,19 +79,23 @@ pub fn extensors()
     ensures brackets { FullExtensor Polynomials }
 {}
 
-/// The join of two extensors is the extensor of their points.
+/// The join of two extensors is the extensor of their points. Joins are linear in each object, and told by its
+/// coordinates.
 pub fn joins()
     ensures integers { JoinLaw Integers }
     ensures points { JoinLaw Polynomials }
     ensures linear { LinearJoins Polynomials }
+    ensures same { SameJoins Polynomials }
 {}
 
-/// The shuffle product of two extensors has the coordinates of their meet.
+/// The shuffle product of two extensors has the coordinates of their meet. Meets are linear in each object, and told by
+/// its coordinates.
 pub fn meets()
     ensures integers { ShuffleLaw Integers }
     ensures points { ShuffleLaw Polynomials }
     ensures free_points { MeetValue }
     ensures linear { LinearMeets Polynomials }
+    ensures same { SameMeets Polynomials }
 {}
 
 /// Combinations, joins and meets of values have the coordinates of those objects.

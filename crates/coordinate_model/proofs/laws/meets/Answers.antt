@@ -3,6 +3,7 @@ use Rattle.coordinate_model.specs.Polynomial.{Polynomials}
 use Rattle.coordinate_model.proofs.IntegerRing.{integer_ring}
 use Rattle.coordinate_model.proofs.PolynomialRing.{polynomial_ring}
 use Rattle.coordinate_model.proofs.BracketLaws.{shuffle-law}
+use Rattle.coordinate_model.proofs.Agreement.{same-meets}
 use Rattle.coordinate_model.proofs.Bilinear.{linear-meets}
 use Rattle.coordinate_model.proofs.MeetValues.{meet_value_law}
 use Rattle.coordinate_model.proofs.laws.meets.Goals as goal
@@ -18,3 +19,6 @@ returns-clause-free_points c = meet_value_law
 
 pub returns-clause-linear : goal.returns-clause-linear
 returns-clause-linear c = linear-meets Polynomials polynomial_ring
+
+pub returns-clause-same : goal.returns-clause-same
+returns-clause-same c = same-meets Polynomials
