@@ -16,7 +16,7 @@ use Rattle.coordinate_model.proofs.SumLemmas.{terms-sum_of}
 use Rattle.coordinate_model.proofs.SumRing.{sum_of-terms}
 use Rattle.coordinate_model.proofs.Bools.{first, second, less}
 
-zero_left : (c : ℤ) → pos 0 +ℤ c ≡ c
+pub zero_left : (c : ℤ) → pos 0 +ℤ c ≡ c
 zero_left c = omega (arith, ints)
 
 zero_right : (c : ℤ) → c +ℤ pos 0 ≡ c

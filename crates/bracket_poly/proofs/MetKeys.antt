@@ -1,12 +1,15 @@
 -- The keys that are met, with one more.
-use Rattle.std.specs.Prelude.{◌≡◌, ◌⊎◌, ◌<◌, ◌≤◌, Bool, true, false, cond, ◌||◌, T, List, [], ◌∷◌, ◌++◌, length}
+use Rattle.std.specs.Prelude.{◌≡◌, ◌⊎◌, ◌<◌, ◌≤◌, Bool, true, false, cond, ◌||◌, T, ℤ, pos, ◌+ℤ◌, List, [], ◌∷◌, ◌++◌, length}
 use Rattle.std.specs.Cmp.{tied_itself, eq_by_cmp_equiv}
 use Rattle.std.specs.List.{AllByRecursion, IsDistinct, list_any}
 use Rattle.std.specs.Ordering.{eq_by_cmp, is_eq}
+use Rattle.std.specs.declared.cmp.Ordering.TheVariants.{Less, Equal, Greater}
 use Rattle.std.proofs.Common.{refl, sym, ap, subst, ◌∙◌, arith, inl, inr, length-append}
 use Rattle.coordinate_model.specs.Key.{Key, key_cmp}
-use Rattle.coordinate_model.proofs.KeyProducts.{key_total}
+use Rattle.coordinate_model.specs.Sums.{Terms, count_at}
+use Rattle.coordinate_model.proofs.KeyProducts.{key_total, key_same}
 use Rattle.bracket_poly.specs.Tracked.{has_met, meet_key, met_limit}
+use Rattle.bracket_poly.proofs.EntryLaws.{zero_left}
 
 abbrev same : Key → Key → Bool
 same = eq_by_cmp key_cmp
@@ -85,3 +88,18 @@ now_met met k = elim (has_met met k) as (λ b. has_met met k ≡ b → T (has_me
   | true ↦ λ e. true_is (has_met met k) e
   | false ↦ λ e. any-last (same k) met k (ap is_eq (tied_itself key_total k))
 ] refl
+
+-- a key that is not met has no coefficient, where the key of each term is met
+pub count_unmet : (met : List Key) (k : Key) (ts : Terms Key) → AllByRecursion (λ t. T (has_met met t.0)) ts
+    → has_met met k ≡ false → count_at key_cmp k ts ≡ pos 0
+count_unmet met k [] h e = refl
+count_unmet met k (t ∷ ts) h e =
+    elim (key_cmp k t.0) as (λ r. key_cmp k t.0 ≡ r → count_at key_cmp k (t ∷ ts) ≡ pos 0) [
+      | Less ↦ λ p. other (ap is_eq p) (count_unmet met k ts h.1 e)
+      | Equal ↦ λ p. absurd (subst T (ap (has_met met) (sym (key_same k t.0 p)) ∙ e) h.0)
+      | Greater ↦ λ p. other (ap is_eq p) (count_unmet met k ts h.1 e)
+    ] refl
+  where
+    other : same k t.0 ≡ false → count_at key_cmp k ts ≡ pos 0 → count_at key_cmp k (t ∷ ts) ≡ pos 0
+    other p rest =
+        ap (λ b. cond b t.1 (pos 0) +ℤ count_at key_cmp k ts) p ∙ zero_left (count_at key_cmp k ts) ∙ rest

@@ -1,5 +1,6 @@
 //! Adding to a polynomial, within its limits.
 ghost use Rattle.std.specs.Prelude.{◌≡◌, ◌≢◌, pos, T, OnOk, OnErr};
+ghost use Rattle.coordinate_model.specs.Sums.{coefficient};
 ghost use Rattle.bracket_poly.specs.Answers.{AnswersLimit};
 ghost use Rattle.bracket_poly.specs.Entries.{with_coefficient};
 ghost use Rattle.bracket_poly.specs.Tracked.{fits, limit_at, plus_term, has_met};
@@ -27,10 +28,11 @@ impl<const D: usize> Poly<D> {
         ensures unchanged { OnErr result (self.new ≡ self.old) }
     {
         laws::keys(&key);
-        let Some(sum) = sum_within(self.coefficient(&key), c) else {
+        let is_met = self.has_met(&key);
+        let Some(sum) = sum_within(self.known_coefficient(&key, is_met), c) else {
             return Err(PolyError::Coefficient);
         };
-        if self.has_met(&key) {
+        if is_met {
             let Ok(()) = write_term(&mut self.terms, key, sum) else {
                 return Err(PolyError::Memory);
             };
@@ -56,6 +58,14 @@ impl<const D: usize> Poly<D> {
         ensures { result ≡ has_met self.now.tracked.met key.now }
     {
         self.met.contains(key)
+    }
+
+    /// The coefficient of the key. A key that is not met has none, so the map is not searched for it.
+    fn known_coefficient(&self, key: &Key<D>, met: bool) -> i128
+        requires { met ≡ has_met self.now.tracked.met key.now }
+        ensures { result ≡ coefficient self.now.tracked.sum key.now }
+    {
+        if met { self.coefficient(key) } else { 0 }
     }
 }
 

@@ -17,10 +17,10 @@ invariant_of-self-inside g c =
     let v : TrackedOf g.row.D = c.args.self.now in
     let e = seen_terms _ _ _ c.self.inside.kept v c.self.view_is in
     let m = seen_met _ _ _ c.self.inside.kept v c.self.view_is in
-    let is_met : has_met v.tracked.met c.args.key ≡ true = sym c.has_met.ensures ∙ c.if-has_met.true in
+    let is_met : has_met v.tracked.met c.args.key ≡ true = sym c.has_met-is_met.ensures ∙ c.if-is_met.true in
     let fits_sum : SFits w128 c.in-Some.sum = search rules in
-    let s = passed_sum _ c.args.c c.in-Some.sum (coefficient v.tracked.sum c.args.key) (record { sfits = c.coefficient.type_inv })
-    c.ranges.c c.in-Some.ensures.0 c.coefficient.ensures in
+    let s = passed_sum _ c.args.c c.in-Some.sum (coefficient v.tracked.sum c.args.key) (record { sfits = c.known_coefficient.type_inv })
+    c.ranges.c c.in-Some.ensures.0 c.known_coefficient.ensures in
     let may : MayAdd v.tracked (c.args.key, c.args.c) =
     may_add v.tracked c.args.key c.args.c _ c.requires.not_zero c.requires.small c.in-Some.ensures.1 s (inl is_met) in
     let after = kept_after _ v c.args.key c.args.c _ c.keys.ensures may (to_z-of_z w128 _ fits_sum ∙ s) in (
@@ -34,15 +34,15 @@ pub returns-in_default-write_term-clause-unchanged : goal.returns-in_default-wri
 returns-in_default-write_term-clause-unchanged g c =
     same_tracked g.row.D _ _ (same_lists _ _ c.in_default-write_term.ensures.unchanged refl) ∙ c.self.view_is
 
-pub returns-then-has_met-clause-added : goal.returns-then-has_met-clause-added
-returns-then-has_met-clause-added g c =
+pub returns-then-is_met-clause-added : goal.returns-then-is_met-clause-added
+returns-then-is_met-clause-added g c =
     let v : TrackedOf g.row.D = c.args.self.now in
     let e = seen_terms _ _ _ c.self.inside.kept v c.self.view_is in
     let m = seen_met _ _ _ c.self.inside.kept v c.self.view_is in
-    let is_met : has_met v.tracked.met c.args.key ≡ true = sym c.has_met.ensures ∙ c.if-has_met.true in
+    let is_met : has_met v.tracked.met c.args.key ≡ true = sym c.has_met-is_met.ensures ∙ c.if-is_met.true in
     let fits_sum : SFits w128 c.in-Some.sum = search rules in
-    let s = passed_sum _ c.args.c c.in-Some.sum (coefficient v.tracked.sum c.args.key) (record { sfits = c.coefficient.type_inv })
-    c.ranges.c c.in-Some.ensures.0 c.coefficient.ensures in
+    let s = passed_sum _ c.args.c c.in-Some.sum (coefficient v.tracked.sum c.args.key) (record { sfits = c.known_coefficient.type_inv })
+    c.ranges.c c.in-Some.ensures.0 c.known_coefficient.ensures in
     let may : MayAdd v.tracked (c.args.key, c.args.c) =
     may_add v.tracked c.args.key c.args.c _ c.requires.not_zero c.requires.small c.in-Some.ensures.1 s (inl is_met) in
     same_after _ v c.args.key c.args.c _ c.keys.ensures may (to_z-of_z w128 _ fits_sum ∙ s) _
@@ -64,8 +64,8 @@ invariant_of-self-inside-2 g c =
     let m = seen_met _ _ _ c.self.inside.kept v c.self.view_is in
     let room : length v.tracked.met < met_limit = omega (arith, ap length m) in
     let fits_sum : SFits w128 c.in-Some.sum = search rules in
-    let s = passed_sum _ c.args.c c.in-Some.sum (coefficient v.tracked.sum c.args.key) (record { sfits = c.coefficient.type_inv })
-    c.ranges.c c.in-Some.ensures.0 c.coefficient.ensures in
+    let s = passed_sum _ c.args.c c.in-Some.sum (coefficient v.tracked.sum c.args.key) (record { sfits = c.known_coefficient.type_inv })
+    c.ranges.c c.in-Some.ensures.0 c.known_coefficient.ensures in
     let may : MayAdd v.tracked (c.args.key, c.args.c) =
     may_add v.tracked c.args.key c.args.c _ c.requires.not_zero c.requires.small c.in-Some.ensures.1 s (inr room) in
     let after = kept_after _ v c.args.key c.args.c _ c.keys.ensures may (to_z-of_z w128 _ fits_sum ∙ s) in
@@ -83,8 +83,8 @@ returns-clause-answer g c =
     let v : TrackedOf g.row.D = c.args.self.now in
     let m = seen_met _ _ _ c.self.inside.kept v c.self.view_is in
     let room : length v.tracked.met < met_limit = omega (arith, ap length m) in
-    let s = passed_sum _ c.args.c c.in-Some.sum (coefficient v.tracked.sum c.args.key) (record { sfits = c.coefficient.type_inv })
-    c.ranges.c c.in-Some.ensures.0 c.coefficient.ensures in
+    let s = passed_sum _ c.args.c c.in-Some.sum (coefficient v.tracked.sum c.args.key) (record { sfits = c.known_coefficient.type_inv })
+    c.ranges.c c.in-Some.ensures.0 c.known_coefficient.ensures in
     no_limit v.tracked (c.args.key, c.args.c)
     (may_add v.tracked c.args.key c.args.c _ c.requires.not_zero c.requires.small c.in-Some.ensures.1 s (inr room))
 
@@ -95,8 +95,8 @@ returns-clause-added g c =
     let m = seen_met _ _ _ c.self.inside.kept v c.self.view_is in
     let room : length v.tracked.met < met_limit = omega (arith, ap length m) in
     let fits_sum : SFits w128 c.in-Some.sum = search rules in
-    let s = passed_sum _ c.args.c c.in-Some.sum (coefficient v.tracked.sum c.args.key) (record { sfits = c.coefficient.type_inv })
-    c.ranges.c c.in-Some.ensures.0 c.coefficient.ensures in
+    let s = passed_sum _ c.args.c c.in-Some.sum (coefficient v.tracked.sum c.args.key) (record { sfits = c.known_coefficient.type_inv })
+    c.ranges.c c.in-Some.ensures.0 c.known_coefficient.ensures in
     let may : MayAdd v.tracked (c.args.key, c.args.c) =
     may_add v.tracked c.args.key c.args.c _ c.requires.not_zero c.requires.small c.in-Some.ensures.1 s (inr room) in
     let spare_one : 0 < spare c.reserve.new.self = c.in-Ok-reserve.ensures.ok in
