@@ -133,3 +133,62 @@ fn straightens(rt: HostRuntime) -> Result<(), Fail> {
     }
     Ok(())
 }
+
+#[test]
+fn makes_products_normal(rt: HostRuntime) -> Result<(), Fail> {
+    let alloc = rt.alloc();
+    let cases: [([[u8; 3]; 2], u64, &[Term]); 5] = [
+        (
+            [[1, 2, 6], [3, 4, 5]],
+            1,
+            &[
+                ([[1, 2, 3], [4, 5, 6]], 1),
+                ([[1, 2, 4], [3, 5, 6]], -1),
+                ([[1, 2, 5], [3, 4, 6]], 1),
+            ],
+        ),
+        (
+            [[1, 3, 6], [2, 4, 5]],
+            1,
+            &[
+                ([[1, 2, 3], [4, 5, 6]], -1),
+                ([[1, 3, 4], [2, 5, 6]], -1),
+                ([[1, 3, 5], [2, 4, 6]], 1),
+            ],
+        ),
+        (
+            [[1, 4, 5], [2, 3, 6]],
+            1,
+            &[
+                ([[1, 2, 3], [4, 5, 6]], -1),
+                ([[1, 2, 4], [3, 5, 6]], 1),
+                ([[1, 2, 5], [3, 4, 6]], -1),
+                ([[1, 3, 4], [2, 5, 6]], -1),
+                ([[1, 3, 5], [2, 4, 6]], 1),
+            ],
+        ),
+        // Its syzygy brings in the first two of these products, which take a turn each.
+        (
+            [[1, 5, 6], [2, 3, 4]],
+            3,
+            &[
+                ([[1, 2, 3], [4, 5, 6]], 1),
+                ([[1, 2, 4], [3, 5, 6]], -1),
+                ([[1, 3, 4], [2, 5, 6]], 1),
+            ],
+        ),
+        (
+            [[1, 2, 5], [1, 3, 4]],
+            1,
+            &[([[1, 2, 3], [1, 4, 5]], -1), ([[1, 2, 4], [1, 3, 5]], 1)],
+        ),
+    ];
+    for (rows, turns, listed) in cases {
+        let Ok(end) = straighten(alloc, poly(alloc, &[(rows, 1)])?, 1000) else {
+            return Err("stopped".into());
+        };
+        assert_eq!(rt; end.turns, turns, "of {rows:?}");
+        assert!(rt; has_terms(&end.normal, listed), "of {rows:?}");
+    }
+    Ok(())
+}
