@@ -1,0 +1,4 @@
+pub mod Lines
+pub mod Terms
+pub mod Proofs
+pub mod Writes
