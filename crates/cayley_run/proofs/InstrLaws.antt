@@ -1,0 +1,344 @@
+-- One instruction more: its value has the coordinates of its object, where nothing stopped the run.
+use Rattle.std.proofs.Common.{◌≡◌, ℕ, zero, suc, ◌+◌, ◌-◌, ◌<◌, ◌≤◌, ◌==◌, ◌||◌, Bool, true, false, cond, List, [], ◌∷◌, ◌++◌}
+use Rattle.std.proofs.Common.{map, length, replicate, All, get_or, refl, sym, ap, ap₂, subst, ◌∙◌, arith, eqb-true, eq-eqb}
+use Rattle.std.proofs.Common.{true≢false}
+use Rattle.std.specs.Prelude.{None}
+use Rattle.std.specs.List.{AllByRecursion}
+use Rattle.std.proofs.Math.ListN.{get_or-map}
+use Rattle.std.proofs.lemmas.List.{length-map}
+use Rattle.coordinate_model.specs.Sequences.{IsRank, columns, subsets}
+use Rattle.coordinate_model.specs.Polynomial.{Polynomials, free_point}
+use Rattle.coordinate_model.specs.Key.{IsKey}
+use Rattle.coordinate_model.specs.BracketPolynomial.{BracketPolynomial, value}
+use Rattle.coordinate_model.specs.Starts.{Product, starts, join_products, meet_products}
+use Rattle.coordinate_model.specs.Value.{Value, coordinates}
+use Rattle.coordinate_model.proofs.Agreement.{same-joins, same-meets}
+use Rattle.coordinate_model.proofs.BracketPolynomialLaws.{value_of_one}
+use Rattle.coordinate_model.proofs.KeySets.{all_single}
+use Rattle.coordinate_model.proofs.PolynomialRing.{polynomial_ring}
+use Rattle.coordinate_model.proofs.Ranks.{by_rank}
+use Rattle.coordinate_model.proofs.RingLemmas as L
+use Rattle.coordinate_model.proofs.Splits.{at_each}
+use Rattle.coordinate_model.proofs.StartLaws.{starts_of_join, starts_of_meet}
+use Rattle.coordinate_model.proofs.StartSizes.{IsEntry, IsSizedProduct, has_step, joins-sized, meets-sized}
+use Rattle.coordinate_model.proofs.ValueLaws.{free_one, coordinates-more, coordinates-none}
+use Rattle.step_types.specs.declared.measure.Measure.{Measure}
+use Rattle.cayley_terms.specs.declared.instr.Instr.{Instr}
+use Rattle.cayley_terms.specs.declared.instr.Instr.TheVariants.{Free, Join, Meet, On, Conic}
+use Rattle.cayley_terms.specs.Figures.{Figure, no_figure, point, joined, met, scalar}
+use Rattle.cayley_terms.specs.Instrs.{no_measure, measure_at, instr_measure, figure_at, instr_figure}
+use Rattle.cayley_terms.specs.Meaning.{Variables}
+use Rattle.cayley_terms.specs.Programs.{IsInner, IsLast}
+use Rattle.cayley_terms.specs.Starts.{one_of, free_value}
+use Rattle.cayley_run.specs.Sections.{is_conclusion}
+use Rattle.cayley_run.specs.Runs.{Log, value_at, with_object, with_instr, IsRun}
+use Rattle.cayley_run.specs.RunLaws.{AllEndWell, IsValueOf, LastEnds}
+use Rattle.cayley_run.proofs.ObjectLaws as object
+
+-- what an instruction makes: its sizes, its object and its value
+pub record Made : Type 0 where
+  pub measure : Measure
+  pub figure : Figure Polynomials
+  pub value : Value
+
+abbrev pub nothing_made : Made
+nothing_made = record { measure = no_measure; figure = no_figure Polynomials; value = [] }
+
+abbrev pub measures_of : List Made → List Measure
+measures_of made = map (λ x. x.measure) made
+
+abbrev pub figures_of : List Made → List (Figure Polynomials)
+figures_of made = map (λ x. x.figure) made
+
+abbrev pub values_of : List Made → List Value
+values_of made = map (λ x. x.value) made
+
+-- a point, a line or a plane, with its value
+pub record IsMade (d : ℕ) (x : Made) : Type 0 where
+  pub step : x.measure.step ≡ x.figure.step
+  pub least : 1 ≤ x.figure.step
+  pub below : x.figure.step < d
+  pub is_value : IsValueOf d x.value x.figure
+  pub entries : AllByRecursion (IsEntry d 64 x.figure.step) x.value
+
+-- the new log has one value more, which is good where nothing stopped the run
+pub record Adds (d : ℕ) (log : Log) (Good : Value → Type 0) (new : Log) : Type 0 where
+  pub well : AllEndWell d new.objects
+  pub value : Value
+  pub values : new.values ≡ log.values ++ value ∷ []
+  pub good : new.stop ≡ None → Good value
+
+-- the new log ends with the coordinate of the object
+pub record HasScalar (d : ℕ) (figure : Figure Polynomials) (new : Log) : Type 0 where
+  pub end : BracketPolynomial
+  pub last : LastEnds new end
+  pub same : value end ≡ scalar Polynomials d figure
+
+-- ---- steps
+
+full_none : (d s : ℕ) → is_conclusion d s ≡ true → cond (s == d) 0 s ≡ 0
+full_none d s h = step (s == 0) (s == d) refl h
+  where
+    step : (b c : Bool) → (s == 0) ≡ b → (b || c) ≡ true → cond c 0 s ≡ 0
+    step b true e g = refl
+    step true false e g = eqb-true s 0 e
+    step false false e g = absurd (true≢false (sym g))
+
+below_none : (d s : ℕ) → s < d → is_conclusion d s ≡ true → s ≡ 0
+below_none d s l h = step (s == 0) (s == d) refl refl h
+  where
+    step : (b c : Bool) → (s == 0) ≡ b → (s == d) ≡ c → (b || c) ≡ true → s ≡ 0
+    step true c e f g = eqb-true s 0 e
+    step false true e f g = let w : s ≡ d = eqb-true s d f in absurd (omega arith)
+    step false false e f g = absurd (true≢false (sym g))
+
+not_full : (d s : ℕ) → s < d → cond (s == d) 0 s ≡ s
+not_full d s l = step (s == d) refl
+  where
+    step : (b : Bool) → (s == d) ≡ b → cond b 0 s ≡ s
+    step true e = let w : s ≡ d = eqb-true s d e in absurd (omega arith)
+    step false e = refl
+
+-- the one set of columns of a conclusion
+at_scalar : (d s : ℕ) (P : List ℕ → Type 0) → IsRank d → is_conclusion d s ≡ true → All P (subsets d s)
+    → P (cond (s == 0) [] (columns d))
+at_scalar d s P r c h = step (s == 0) (s == d) refl refl c
+  where
+    alone : (d : ℕ) → IsRank d → subsets d d ≡ columns d ∷ []
+    alone = by_rank (λ d. subsets d d ≡ columns d ∷ []) refl refl refl
+
+    step : (a b : Bool) → (s == 0) ≡ a → (s == d) ≡ b → (a || b) ≡ true → P (cond a [] (columns d))
+    step true b e f g = subst (λ n. All P (subsets d n)) (eqb-true s 0 e) h 0 [] (omega arith)
+    step false true e f g =
+        subst (All P) (ap (subsets d) (eqb-true s d f) ∙ alone d r) h 0 [] (omega arith)
+    step false false e f g = absurd (true≢false (sym g))
+
+-- ---- the starts of two objects
+
+-- these products of an object of this step add up to it; its extensors have a points, and none in a conclusion
+pub record IsWork (d step a : ℕ) (ps : List Product) (figure : Figure Polynomials) : Type 0 where
+  pub sized : AllByRecursion (IsSizedProduct d 64 a) ps
+  pub none : is_conclusion d step ≡ true → a ≡ 0
+  pub steps : step ≡ figure.step
+  pub same : All (λ K. coordinates (starts ps) K ≡ figure.coordinates K) (subsets d figure.step)
+
+module _ (d : ℕ) (rank : IsRank d) (x y : Made) (h : IsMade d x) (k : IsMade d y) where
+  abbrev a : ℕ
+  a = x.figure.step
+
+  abbrev b : ℕ
+  b = y.figure.step
+
+  pub join_work : x.figure.step + y.figure.step ≤ d
+      → IsWork d (x.measure.step + y.measure.step)
+      (cond (x.figure.step + y.figure.step == d) 0 (x.figure.step + y.figure.step)) (join_products d x.value y.value)
+      (joined Polynomials x.figure y.figure)
+  join_work few = record {
+    sized = joins-sized d 64 a b few x.value y.value h.entries k.entries;
+    none = λ e. full_none d (a + b) (ap (is_conclusion d) (sym (ap₂ ◌+◌ h.step k.step)) ∙ e);
+    steps = ap₂ ◌+◌ h.step k.step;
+    same = λ i z l.
+        starts_of_join d a b x.value y.value rank (h.least, k.least, few) (has_step d 64 a x.value h.entries)
+        (has_step d 64 b y.value k.entries) i z l
+        ∙ same-joins Polynomials d a b (coordinates x.value) (coordinates y.value) x.figure.coordinates
+        y.figure.coordinates h.is_value k.is_value i z l;
+  }
+
+  pub meet_work : d ≤ x.figure.step + y.figure.step
+      → IsWork d (x.measure.step + y.measure.step - d) (x.figure.step + y.figure.step - d)
+      (meet_products d x.value y.value) (met Polynomials d x.figure y.figure)
+  meet_work enough =
+      let p : a < d = h.below in
+      let q : b < d = k.below in
+      let e : x.measure.step + y.measure.step - d ≡ a + b - d = ap₂ (λ m n. m + n - d) h.step k.step in
+      record {
+        sized = meets-sized d 64 a b (omega arith) x.value y.value h.entries k.entries;
+        none = λ c. below_none d (a + b - d) (omega arith) (ap (is_conclusion d) (sym e) ∙ c);
+        steps = e;
+        same = λ i z l.
+            starts_of_meet d a b x.value y.value rank (h.least, p, k.least, q, enough)
+            (has_step d 64 a x.value h.entries) (has_step d 64 b y.value k.entries) i z l
+            ∙ same-meets Polynomials d a b (coordinates x.value) (coordinates y.value) x.figure.coordinates
+            y.figure.coordinates (get_or (subsets d (a + b - d)) i z) h.is_value k.is_value;
+      }
+
+module _ (d step a : ℕ) (rank : IsRank d) (ps : List Product) (figure : Figure Polynomials)
+    (w : IsWork d step a ps figure) (log : Log) (sections : AllEndWell d log.objects) where
+  abbrev new : Log
+  new = with_object d step ps log
+
+  added : object.HasObject d a step rank ps w.sized w.none log new
+  added = object.has_object d a step rank ps w.sized w.none log sections
+
+  value_added : new.stop ≡ None → IsValueOf d added.value figure
+  value_added e i z l = added.same e (get_or (subsets d figure.step) i z) ∙ w.same i z l
+
+  pub adds_inner : (m : Measure) → m.step ≡ step → 1 ≤ step → step < d → a ≡ figure.step
+      → Adds d log (λ v. IsMade d (record { measure = m; figure = figure; value = v })) new
+  adds_inner m e least below size = record {
+    well = added.well;
+    value = added.value;
+    values = added.values;
+    good = λ n. record {
+      step = e ∙ w.steps;
+      least = subst (λ s. 1 ≤ s) w.steps least;
+      below = subst (λ s. s < d) w.steps below;
+      is_value = value_added n;
+      entries = subst (λ s. AllByRecursion (IsEntry d 64 s) added.value) size (added.entries n);
+    };
+  }
+
+  pub adds_last : is_conclusion d step ≡ true
+      → Adds d log (λ v. IsValueOf d v figure × HasScalar d figure new) new
+  adds_last c = record {
+    well = added.well;
+    value = added.value;
+    values = added.values;
+    good = λ n.
+        let e = object.has_end d a step rank ps w.sized w.none log c n in (
+          value_added n,
+          record {
+            end = e.end;
+            last = e.last;
+            same =
+                e.same (cond (figure.step == 0) [] (columns d))
+                ∙ at_scalar d figure.step (λ K. coordinates (starts ps) K ≡ figure.coordinates K) rank
+                (ap (is_conclusion d) (sym w.steps) ∙ c) w.same;
+          },
+        );
+  }
+
+-- ---- free points
+
+free_coordinates : (n i : ℕ) (K : List ℕ) → coordinates (free_value n i) K ≡ (point Polynomials (free_point i)).coordinates K
+free_coordinates n i K =
+    coordinates-more (i ∷ [], one_of n) [] K
+    ∙ ap₂ Polynomials.◌⊕◌ (ap₂ Polynomials.◌⊗◌ (value_of_one n) (free_one i K)) (coordinates-none K)
+    ∙ polynomial_ring.add_zero _ ∙ L.one_mul Polynomials polynomial_ring _
+
+length-replicate : (n : ℕ) → length (replicate {A = ℕ} n 0) ≡ n
+length-replicate zero = refl
+length-replicate (suc n) = ap suc (length-replicate n)
+
+free_entry : (d n i : ℕ) → IsEntry d n 1 (i ∷ [], one_of n)
+free_entry d n i = record {
+  points = refl;
+  keys =
+      all_single (IsKey d n) (record { exponents = replicate n 0; rows = [] })
+      (record { parameters = length-replicate n; each = tt; ascending = λ k x z h. absurd (omega arith) });
+}
+
+-- ---- instructions
+
+-- what the instruction of this number made
+module _ (made : List Made) (log : Log) (values : log.values ≡ values_of made) where
+  abbrev pub made_at : ℕ → Made
+  made_at n = record {
+    measure = measure_at (measures_of made) n;
+    figure = figure_at Variables (figures_of made) n;
+    value = value_at log n;
+  }
+
+  pub holds_at : (P : Made → Type 0) → AllByRecursion P made → (n : ℕ) → n < length (measures_of made) → P (made_at n)
+  holds_at P all n h =
+      let l : length (measures_of made) ≡ length made = length-map made (λ x. x.measure) in
+      subst P
+      (λ j. record {
+        measure = sym (get_or-map (λ (x : Made). x.measure) made n nothing_made) j;
+        figure = sym (get_or-map (λ (x : Made). x.figure) made n nothing_made) j;
+        value =
+            sym (ap (λ vs. get_or vs n []) values ∙ get_or-map (λ (x : Made). x.value) made n nothing_made) j;
+      })
+      (at_each P made all n nothing_made (omega arith))
+
+module _ (d : ℕ) (rank : IsRank d) (made : List Made) (log : Log) (all : AllByRecursion (IsMade d) made)
+    (values : log.values ≡ values_of made) (sections : AllEndWell d log.objects) where
+  abbrev at : ℕ → Made
+  at n = made_at made log values n
+
+  is_at : (n : ℕ) → n < length (measures_of made) → IsMade d (made_at made log values n)
+  is_at n h = holds_at made log values (IsMade d) all n h
+
+  -- the step of the instruction, and the log behind it
+  abbrev pub step_of : Instr → ℕ
+  step_of instr = (instr_measure d (measures_of made) instr).step
+
+  abbrev pub log_behind : Instr → Log
+  log_behind instr = with_instr d log (instr, step_of instr)
+
+  abbrev pub figure_of : Instr → Figure Polynomials
+  figure_of instr = instr_figure Variables d (figures_of made) instr
+
+  -- what it makes, with this value
+  abbrev pub made_of : Instr → Value → Made
+  made_of instr v = record { measure = instr_measure d (measures_of made) instr; figure = figure_of instr; value = v }
+
+  pub inner_instr : (instr : Instr) → IsRun instr → IsInner d (measures_of made) instr
+      → Adds d log (λ v. IsMade d (made_of instr v)) (log_behind instr)
+  inner_instr (Free i) r h = record {
+    well = sections;
+    value = free_value 64 i;
+    values = refl;
+    good = λ e. record {
+      step = refl;
+      least = omega arith;
+      below = let l = rank.0 in omega arith;
+      is_value = λ k z l. free_coordinates 64 i (get_or (subsets d 1) k z);
+      entries = (free_entry d 64 i, tt);
+    };
+  }
+  inner_instr (Join a b) r h =
+      let x : IsMade d (at a) = is_at a h.earlier.0 in
+      let y : IsMade d (at b) = is_at b h.earlier.1.0 in
+      let e : step_of (Join a b) ≡ (at a).figure.step + (at b).figure.step = ap₂ ◌+◌ x.step y.step in
+      let s : step_of (Join a b) < d = h.steps in
+      let few : (at a).figure.step + (at b).figure.step < d = subst (λ n. n < d) e s in
+      adds_inner d (step_of (Join a b))
+      (cond ((at a).figure.step + (at b).figure.step == d) 0 ((at a).figure.step + (at b).figure.step)) rank
+      (join_products d (value_at log a) (value_at log b)) (figure_of (Join a b))
+      (join_work d rank (at a) (at b) x y (omega arith)) log sections (instr_measure d (measures_of made) (Join a b)) refl
+      h.sized.least s (not_full d ((at a).figure.step + (at b).figure.step) few)
+  inner_instr (Meet a b) r h =
+      let x : IsMade d (at a) = is_at a h.earlier.0 in
+      let y : IsMade d (at b) = is_at b h.earlier.1.0 in
+      let e : (at a).measure.step + (at b).measure.step ≡ (at a).figure.step + (at b).figure.step = ap₂ ◌+◌ x.step y.step in
+      let s : d < (at a).measure.step + (at b).measure.step = h.steps in
+      let more : d < (at a).figure.step + (at b).figure.step = subst (λ n. d < n) e s in
+      adds_inner d (step_of (Meet a b)) ((at a).figure.step + (at b).figure.step - d) rank
+      (meet_products d (value_at log a) (value_at log b)) (figure_of (Meet a b))
+      (meet_work d rank (at a) (at b) x y (omega arith)) log sections (instr_measure d (measures_of made) (Meet a b)) refl
+      h.sized.least h.sized.below refl
+  inner_instr (On a b s t) r h = absurd r
+  inner_instr (Conic p1 p2 p3 p4 p5 p6) r h = absurd r
+
+  pub last_instr : (instr : Instr) → IsRun instr → IsLast d (measures_of made) instr
+      → Adds d log (λ v. IsValueOf d v (figure_of instr) × HasScalar d (figure_of instr) (log_behind instr))
+      (log_behind instr)
+  last_instr (Free i) r h = absurd h.steps
+  last_instr (Join a b) r h =
+      let x : IsMade d (at a) = is_at a h.earlier.0 in
+      let y : IsMade d (at b) = is_at b h.earlier.1.0 in
+      let e : step_of (Join a b) ≡ (at a).figure.step + (at b).figure.step = ap₂ ◌+◌ x.step y.step in
+      let s : step_of (Join a b) ≡ d = h.steps in
+      let few : (at a).figure.step + (at b).figure.step ≡ d = sym e ∙ s in
+      adds_last d (step_of (Join a b))
+      (cond ((at a).figure.step + (at b).figure.step == d) 0 ((at a).figure.step + (at b).figure.step)) rank
+      (join_products d (value_at log a) (value_at log b)) (figure_of (Join a b))
+      (join_work d rank (at a) (at b) x y (omega arith)) log sections
+      (either (step_of (Join a b) == 0) (step_of (Join a b) == d) (eq-eqb (step_of (Join a b)) d s))
+    where
+      either : (p q : Bool) → q ≡ true → (p || q) ≡ true
+      either true q f = refl
+      either false q f = f
+  last_instr (Meet a b) r h =
+      let x : IsMade d (at a) = is_at a h.earlier.0 in
+      let y : IsMade d (at b) = is_at b h.earlier.1.0 in
+      let e : (at a).measure.step + (at b).measure.step ≡ (at a).figure.step + (at b).figure.step = ap₂ ◌+◌ x.step y.step in
+      let s : (at a).measure.step + (at b).measure.step ≡ d = h.steps in
+      let more : (at a).figure.step + (at b).figure.step ≡ d = sym e ∙ s in
+      adds_last d (step_of (Meet a b)) ((at a).figure.step + (at b).figure.step - d) rank
+      (meet_products d (value_at log a) (value_at log b)) (figure_of (Meet a b))
+      (meet_work d rank (at a) (at b) x y (omega arith)) log sections
+      (ap (λ p. p || (step_of (Meet a b) == d)) (eq-eqb (step_of (Meet a b)) 0 (let z : step_of (Meet a b) ≡ 0 = omega arith in z)))
+  last_instr (On a b s t) r h = absurd r
+  last_instr (Conic p1 p2 p3 p4 p5 p6) r h = absurd r

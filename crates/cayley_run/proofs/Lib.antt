@@ -1,0 +1,14 @@
+pub mod StartSums
+pub mod SectionLaws
+pub mod ObjectLaws
+pub mod InstrLaws
+pub mod RunMeaning
+pub mod KeyBounds
+pub mod SectionBounds
+pub mod RunBounds
+pub mod Scalars
+pub mod StartRuns
+pub mod SectionSteps
+pub mod Operands
+pub mod RunReady
+pub mod RunSteps

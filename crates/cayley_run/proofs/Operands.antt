@@ -1,0 +1,148 @@
+-- The values that an instruction names, in the code and in the log.
+use Rattle.std.proofs.Common.{◌≡◌, ℕ, zero, suc, ◌+◌, ◌-◌, ◌<◌, ◌≤◌, List, [], ◌∷◌, map, length, get_or, refl, sym, ap, ap₂}
+use Rattle.std.proofs.Common.{subst, ◌∙◌, arith}
+use Rattle.std.proofs.lemmas.List.{length-map}
+use Rattle.std.specs.Prelude.{Result, OnOk}
+use Rattle.std.specs.List.{AllByRecursion}
+use Rattle.coordinate_model.specs.Starts.{Entry, Product, join_products, meet_products}
+use Rattle.coordinate_model.specs.Value as model
+use Rattle.bracket_poly.specs.Products.{HasDegree, ExponentsFit}
+use Rattle.bracket_poly.specs.Values.{value_of}
+use Rattle.bracket_poly.specs.declared.value.Value.{Value}
+use Rattle.bracket_poly.proofs.Degrees.{exponents_fit}
+use Rattle.cayley_terms.specs.declared.instr.Instr.{Instr}
+use Rattle.cayley_terms.specs.declared.instr.Instr.TheVariants.{Join, Meet}
+use Rattle.cayley_terms.specs.Starts.{value_at, products_of}
+use Rattle.cayley_terms.specs.Starts as operation
+use Rattle.shuffle_meet.specs.Objects.{AreJoined, AreMet}
+use Rattle.cayley_run.specs.Ready.{IsOperand, step_at, ArePair, IsJoin, IsMeet, Makes, IsReady}
+use Rattle.cayley_run.specs.Runs.{Log, with_object, with_instr}
+use Rattle.cayley_run.specs.Seen.{log_of, steps_of}
+use Rattle.cayley_run.specs.declared.progress.Progress.{Progress}
+
+-- a value of the code, as the log has it
+abbrev pub said : {d : ℕ} → Value d → model.Value
+said v = value_of v.entries
+
+-- no exponent of a value passes 1,000
+abbrev pub IsSmall : model.Value → Type 0
+IsSmall v = AllByRecursion (λ e. HasDegree 1000 e.1) v
+
+module _ {d : ℕ} where
+  -- what stands at a place, by the lists that are made of the values
+  step_there : (vs : List (Value d)) (n : ℕ) (x : Value d) → n < length vs → x ≡ get_or vs n x
+      → get_or (map (λ v. v.step) vs) n 0 ≡ x.step
+  step_there [] n x l e = absurd (omega arith)
+  step_there (v ∷ vs) zero x l e = ap (λ (w : Value d). w.step) (sym e)
+  step_there (v ∷ vs) (suc n) x l e = step_there vs n x (omega arith) e
+
+  pub said_there : (vs : List (Value d)) (n : ℕ) (x : Value d) → n < length vs → x ≡ get_or vs n x
+      → get_or (map said vs) n [] ≡ said x
+  said_there [] n x l e = absurd (omega arith)
+  said_there (v ∷ vs) zero x l e = ap (λ (w : Value d). said w) (sym e)
+  said_there (v ∷ vs) (suc n) x l e = said_there vs n x (omega arith) e
+
+  small_there : (vs : List (Value d)) (n : ℕ) (x : Value d) → n < length vs → x ≡ get_or vs n x
+      → AllByRecursion IsSmall (map said vs) → IsSmall (said x)
+  small_there [] n x l e h = absurd (omega arith)
+  small_there (v ∷ vs) zero x l e h = subst (λ (w : Value d). IsSmall (said w)) (sym e) h.0
+  small_there (v ∷ vs) (suc n) x l e h = small_there vs n x (omega arith) e h.1
+
+-- the terms of two entries that are small may be multiplied
+fit_one : (e : Entry) (B : model.Value) → HasDegree 1000 e.1 → IsSmall B → AllByRecursion (λ f. ExponentsFit e.1 f.1) B
+fit_one e [] h k = tt
+fit_one e (f ∷ B) h k = (exponents_fit 1000 1000 e.1 f.1 (omega arith) h k.0, fit_one e B h k.1)
+
+pub fit_all : (A B : model.Value) → IsSmall A → IsSmall B → AllByRecursion (λ e. AllByRecursion (λ f. ExponentsFit e.1 f.1) B) A
+fit_all [] B h k = tt
+fit_all (e ∷ A) B h k = (fit_one e B h.0 k, fit_all A B h.1 k)
+
+-- the values that a join or a meet names may be joined or may meet, and have small products
+module _ {d : ℕ} (p : Progress d) (a b : ℕ) (x y : Value d) (first : x ≡ get_or p.values.items a x)
+    (second : y ≡ get_or p.values.items b y) where
+  abbrev values : List (Value d)
+  values = p.values.items
+
+  within : (n : ℕ) → IsOperand d (steps_of p) n → n < length values
+  within n h = let l : length (steps_of p) ≡ length values = length-map values (λ v. v.step) in
+      let k : n < length (steps_of p) = h.earlier in omega arith
+
+  step_first : IsOperand d (steps_of p) a → step_at (steps_of p) a ≡ x.step
+  step_first h = step_there values a x (within a h) first
+
+  step_second : IsOperand d (steps_of p) b → step_at (steps_of p) b ≡ y.step
+  step_second h = step_there values b y (within b h) second
+
+  values_first : IsOperand d (steps_of p) a → said x ≡ value_at (log_of p).values a
+  values_first h = sym (said_there values a x (within a h) first)
+
+  values_second : IsOperand d (steps_of p) b → said y ≡ value_at (log_of p).values b
+  values_second h = sym (said_there values b y (within b h) second)
+
+  pub pair_fits : (ps : List Product) → ArePair d (steps_of p) a b ps → AllByRecursion IsSmall (log_of p).values
+      → AllByRecursion (λ e. AllByRecursion (λ f. ExponentsFit e.1 f.1) (said y)) (said x)
+  pair_fits ps h all =
+      fit_all (said x) (said y) (small_there values a x (within a h.first) first all)
+      (small_there values b y (within b h.second) second all)
+
+  pub are_joined : (step : ℕ) → IsJoin d (steps_of p) (log_of p) a b step → AreJoined d x.step y.step
+  are_joined step h =
+      let i = step_first h.pair.first in
+      let j = step_second h.pair.second in
+      record {
+        first = subst (λ n. 1 ≤ n) i h.pair.first.least;
+        second = subst (λ n. 1 ≤ n) j h.pair.second.least;
+        first_below = subst (λ n. n < d) i h.pair.first.below;
+        second_below = subst (λ n. n < d) j h.pair.second.below;
+        few = subst (λ n. n ≤ d) (ap₂ ◌+◌ i j) h.few;
+      }
+
+  pub are_met : (step : ℕ) → IsMeet d (steps_of p) (log_of p) a b step → AreMet d x.step y.step
+  are_met step h =
+      let i = step_first h.pair.first in
+      let j = step_second h.pair.second in
+      record {
+        first = subst (λ n. 1 ≤ n) i h.pair.first.least;
+        second = subst (λ n. 1 ≤ n) j h.pair.second.least;
+        first_below = subst (λ n. n < d) i h.pair.first.below;
+        second_below = subst (λ n. n < d) j h.pair.second.below;
+        many = subst (λ n. d ≤ n) (ap₂ ◌+◌ i j) h.many;
+      }
+
+  pub step_of_join : (step : ℕ) → IsJoin d (steps_of p) (log_of p) a b step → x.step + y.step ≡ step
+  step_of_join step h = sym (h.step ∙ ap₂ ◌+◌ (step_first h.pair.first) (step_second h.pair.second))
+
+  pub step_of_meet : (step : ℕ) → IsMeet d (steps_of p) (log_of p) a b step → x.step + y.step - d ≡ step
+  step_of_meet step h = sym (h.step ∙ ap₂ (λ m n. m + n - d) (step_first h.pair.first) (step_second h.pair.second))
+
+  pub joined-same : (ps : List Product) → ArePair d (steps_of p) a b ps
+      → join_products d (said x) (said y) ≡ products_of operation.Join d (log_of p).values a b
+  joined-same ps h = ap₂ (join_products d) (values_first h.first) (values_second h.second)
+
+  pub met-same : (ps : List Product) → ArePair d (steps_of p) a b ps
+      → meet_products d (said x) (said y) ≡ products_of operation.Meet d (log_of p).values a b
+  met-same ps h = ap₂ (meet_products d) (values_first h.first) (values_second h.second)
+
+-- the log behind a join and a meet
+pub log_of_join : {X E : Type 0} (d : ℕ) (result : Result X E) (new old : Log) (instr : Instr) (a b step : ℕ)
+    (ps : List Product) → instr ≡ Join a b → ps ≡ products_of operation.Join d old.values a b
+    → OnOk result (new ≡ with_object d step ps old) → OnOk result (new ≡ with_instr d old (instr, step))
+log_of_join d result new old instr a b step ps is same h =
+    subst (λ (i : Instr). OnOk result (new ≡ with_instr d old (i, step))) (sym is)
+    (subst (λ qs. OnOk result (new ≡ with_object d step qs old)) same h)
+
+pub log_of_meet : {X E : Type 0} (d : ℕ) (result : Result X E) (new old : Log) (instr : Instr) (a b step : ℕ)
+    (ps : List Product) → instr ≡ Meet a b → ps ≡ products_of operation.Meet d old.values a b
+    → OnOk result (new ≡ with_object d step ps old) → OnOk result (new ≡ with_instr d old (instr, step))
+log_of_meet d result new old instr a b step ps is same h =
+    subst (λ (i : Instr). OnOk result (new ≡ with_instr d old (i, step))) (sym is)
+    (subst (λ qs. OnOk result (new ≡ with_object d step qs old)) same h)
+
+-- what an instruction that can be run makes
+pub makes_join : (d : ℕ) (steps : List ℕ) (log : Log) (instr : Instr) (a b step : ℕ) → IsReady d steps log instr step
+    → instr ≡ Join a b → IsJoin d steps log a b step
+makes_join d steps log instr a b step h e = subst (λ i. Makes d steps log i step) e h.makes
+
+pub makes_meet : (d : ℕ) (steps : List ℕ) (log : Log) (instr : Instr) (a b step : ℕ) → IsReady d steps log instr step
+    → instr ≡ Meet a b → IsMeet d steps log a b step
+makes_meet d steps log instr a b step h e = subst (λ i. Makes d steps log i step) e h.makes

@@ -1,0 +1,32 @@
+use Rattle.std.proofs.Common.{rules, ◌≡◌, ◌∙◌, sym, ap, subst, refl, ℕ, ◌≤◌, length}
+use Rattle.std.specs.Prelude.{None, is_some}
+use Rattle.std.specs.Option.{is_none}
+use Rattle.straightening.specs.Runs.{run}
+use Rattle.cayley_run.proofs.StartRuns.{small_at, turns_within}
+use Rattle.cayley_run.proofs.SectionSteps.{step_goes_on, step_stops, all_rewritten, none_of}
+use Rattle.cayley_run.proofs.sections.run_starts.Goals as goal
+
+pub rewrite-requires : goal.rewrite-requires
+rewrite-requires g c = (
+  search rules,
+  (
+    search rules,
+    small_at c.args.starts.now c.loop-scalar.scalar-index c.loop-scalar-item.result c.loop-scalar-test.true
+        c.loop-scalar-item.is c.requires.small,
+  ),
+)
+
+pub overflow_sub-done : goal.overflow_sub-done
+overflow_sub-done g c =
+    subst (λ (n : ℕ). n ≤ c.loop-scalar.done.left) (sym c.in_ok-rewriting.ensures.turns)
+    (turns_within c.loop-scalar.done.left c.loop-scalar-item.result.1.tracked)
+
+pub loop-scalar-preserved : goal.loop-scalar-preserved
+loop-scalar-preserved g c =
+    let none = none_of c.in_ok-rewriting.rewriting.stop c.if-is_some.ensures in (
+      step_goes_on c.args.budget c.loop-scalar.done.left c.args.starts.now c.loop-scalar.scalar-index
+          c.loop-scalar-item.result c.loop-scalar.done.sections.items c.push.new.self.items _ c.in_ok-rewriting.rewriting
+          c.loop-scalar-test.true c.loop-scalar-item.is c.loop-scalar.invariant.0 c.in_ok-rewriting.ensures
+          c.in_ok-push.ensures.items refl c.in_ok-copy.ensures refl refl none,
+      none,
+    )

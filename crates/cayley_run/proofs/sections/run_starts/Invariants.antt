@@ -1,0 +1,13 @@
+use Rattle.std.proofs.Common.{◌≡◌, map, drop}
+use Rattle.std.specs.Prelude.{None}
+use Rattle.bracket_poly.specs.Sections.{rewritten_of}
+use Rattle.cayley_run.specs.Seen.{starts_of}
+use Rattle.cayley_run.proofs.StartRuns.{AreRewritten}
+use Rattle.cayley_run.proofs.sections.run_starts.Given as goal
+
+-- so far nothing stopped the run
+abbrev pub invariant-loop-scalar : goal.invariant-loop-scalar
+invariant-loop-scalar g l =
+    AreRewritten l.budget (starts_of l.starts) (map rewritten_of l.done.sections.items) l.done.left
+    (starts_of (drop l.scalar-index l.starts))
+    × (l.done.stop ≡ None)

@@ -1,0 +1,7 @@
+pub mod Sections
+pub mod Runs
+pub mod RunLaws
+pub mod Bounds
+pub mod Results
+pub mod Ready
+pub mod Seen

@@ -1,0 +1,72 @@
+-- What must hold before an instruction is run: of the values so far, of their steps, and of its starts.
+use Rattle.std.specs.Prelude.{◌≡◌, ℕ, ◌+◌, ◌-◌, ◌^◌, ◌<◌, ◌≤◌, T, List, map, length, slice_index_or}
+use Rattle.std.specs.FinMap.{is_sorted}
+use Rattle.std.specs.List.{AllByRecursion}
+use Rattle.coordinate_model.specs.Key.{row_cmp}
+use Rattle.coordinate_model.specs.Starts.{Entry, Product}
+use Rattle.bracket_poly.specs.Products.{HasDegree}
+use Rattle.bracket_poly.specs.Sections.{Rewritten}
+use Rattle.bracket_poly.specs.Values.{extensor_size}
+use Rattle.cayley_terms.specs.declared.instr.Instr.{Instr}
+use Rattle.cayley_terms.specs.declared.instr.Instr.TheVariants.{Free, Join, Meet, On, Conic}
+use Rattle.cayley_terms.specs.Starts.{products_of}
+use Rattle.cayley_terms.specs.Starts as operation
+use Rattle.shuffle_meet.specs.Stops.{tracked_entries}
+use Rattle.cayley_run.specs.Sections.{Start}
+use Rattle.cayley_run.specs.Runs.{Log}
+
+-- no exponent of the starts passes 1,000
+abbrev pub AreSmall : List Start → Type 0
+AreSmall starts = AllByRecursion (λ start. HasDegree 1000 start.1.sum) starts
+
+-- the step of the value of this number
+abbrev pub step_at : List ℕ → ℕ → ℕ
+step_at steps n = slice_index_or steps n 0
+
+-- a value of a point, a line or a plane of rank d
+pub record IsOperand (d : ℕ) (steps : List ℕ) (n : ℕ) : Type 0 where
+  pub earlier : n < length steps
+  pub least : 1 ≤ step_at steps n
+  pub below : step_at steps n < d
+
+-- two values, and products of them of which no start passes the degree
+pub record ArePair (d : ℕ) (steps : List ℕ) (a b : ℕ) (products : List Product) : Type 0 where
+  pub first : IsOperand d steps a
+  pub second : IsOperand d steps b
+  pub small : AreSmall (tracked_entries products)
+
+-- two values that are joined, and the step of their join
+pub record IsJoin (d : ℕ) (steps : List ℕ) (log : Log) (a b made : ℕ) : Type 0 where
+  pub pair : ArePair d steps a b (products_of operation.Join d log.values a b)
+  pub few : step_at steps a + step_at steps b ≤ d
+  pub step : made ≡ step_at steps a + step_at steps b
+
+-- two values that meet, and the step of their meet
+pub record IsMeet (d : ℕ) (steps : List ℕ) (log : Log) (a b made : ℕ) : Type 0 where
+  pub pair : ArePair d steps a b (products_of operation.Meet d log.values a b)
+  pub many : d ≤ step_at steps a + step_at steps b
+  pub step : made ≡ step_at steps a + step_at steps b - d
+
+-- the instruction makes something of this step
+abbrev pub Makes : ℕ → List ℕ → Log → Instr → ℕ → Type 0
+Makes d steps log (Free i) step = step ≡ 1
+Makes d steps log (Join a b) step = IsJoin d steps log a b step
+Makes d steps log (Meet a b) step = IsMeet d steps log a b step
+Makes d steps log (On a b s t) step = ⊥
+Makes d steps log (Conic p1 p2 p3 p4 p5 p6) step = ⊥
+
+-- the instruction can be run behind values of these steps
+pub record IsReady (d : ℕ) (steps : List ℕ) (log : Log) (instr : Instr) (step : ℕ) : Type 0 where
+  pub counted : length log.values ≡ length steps
+  pub few : length log.objects + 1 < 2 ^ 32
+  pub small : AllByRecursion (λ v. AllByRecursion (λ e. HasDegree 1000 e.1) v) log.values
+  pub makes : Makes d steps log instr step
+
+-- the extensor of a section with its start
+abbrev pub start_entry : Rewritten → Entry
+start_entry s = (s.scalar, s.start)
+
+-- sections of an object of rank d and this step: their extensors strictly ascend, and have their number of points
+pub record AreSections (d step : ℕ) (sections : List Rewritten) : Type 0 where
+  pub sizes : AllByRecursion (λ s. length s.scalar ≡ extensor_size d step) sections
+  pub ascending : T (is_sorted row_cmp (map start_entry sections))

@@ -1,0 +1,52 @@
+-- What the code keeps of a run, as the definitions say it.
+use Rattle.std.specs.Prelude.{◌≡◌, ℕ, List, map, length, Option}
+use Rattle.std.specs.Option.{option_map}
+use Rattle.bracket_terms.specs.declared.extensor.Extensor.{Extensor}
+use Rattle.bracket_terms.specs.Joins.{points_of}
+use Rattle.bracket_terms.specs.LogUses.{use_of}
+use Rattle.bracket_poly.specs.Kept.{TrackedOf}
+use Rattle.bracket_poly.specs.Values.{value_of}
+use Rattle.bracket_poly.specs.Sections.{rewritten_of, worked_of}
+use Rattle.straightening.specs.Runs.{Run}
+use Rattle.cayley_run.specs.Results.{stop_of}
+use Rattle.cayley_run.specs.Sections as spec
+use Rattle.cayley_run.specs.Runs.{Log}
+use Rattle.cayley_run.specs.declared.sections.Sections.{Sections}
+use Rattle.cayley_run.specs.declared.sections.Rewriting.{Rewriting}
+use Rattle.cayley_run.specs.declared.progress.Progress.{Progress}
+
+-- a start of the code
+abbrev pub start_of : {d : ℕ} → Extensor × TrackedOf d → spec.Start
+start_of e = (points_of e.0, e.1.tracked)
+
+-- the starts of a value of the code
+abbrev pub starts_of : {d : ℕ} → List (Extensor × TrackedOf d) → List spec.Start
+starts_of entries = map start_of entries
+
+-- sections of the code
+abbrev pub sections_of : {d : ℕ} → Sections d → spec.Sections
+sections_of s = record {
+  sections = map rewritten_of s.sections.items;
+  left = s.left;
+  stop = option_map stop_of s.stop;
+}
+
+-- the rewriting of a start is this run
+pub record IsRewriting {d : ℕ} (r : Rewriting d) (run : Run) : Type 0 where
+  pub uses : map use_of r.uses ≡ run.uses
+  pub turns : r.turns ≡ length run.uses
+  pub end : option_map (λ p. p.tracked.sum) r.end ≡ spec.end_of run
+  pub stop : option_map stop_of r.stop ≡ run.stop
+
+-- a run of the code
+abbrev pub log_of : {d : ℕ} → Progress d → Log
+log_of p = record {
+  values = map (λ v. value_of v.entries) p.values.items;
+  objects = map worked_of p.objects.items;
+  left = p.left;
+  stop = option_map stop_of p.stop;
+}
+
+-- the steps of its values
+abbrev pub steps_of : {d : ℕ} → Progress d → List ℕ
+steps_of p = map (λ v. v.step) p.values.items
