@@ -1,9 +1,11 @@
 #!/usr/bin/env python3
-"""Prints the time and the memory that `prove` takes on the largest texts that it reads.
+"""Prints the time and the memory that `prove` takes on the largest texts that it reads, and on the texts beside this
+script, of which the runs are long; and how many turns the run makes.
 
 Usage: bench/largest_texts.py PROGRAM
 """
 import os
+import pathlib
 import sys
 import tempfile
 import time
@@ -34,7 +36,7 @@ def definitions():
 
 
 def texts():
-    """The largest texts of several kinds."""
+    """The largest texts of several kinds, and those beside this script."""
     names = [b"N%031d" % number for number in range(200)]
     yield "200 names of 32 bytes", HEAD + b"free " + b" ".join(names) + b"\nconclude collinear " + b" ".join(names[-3:]) + b"\n"
     yield "2,000 definitions", filled(b"".join(definitions()), b"# a comment that fills the text\n")
@@ -43,11 +45,13 @@ def texts():
     yield "one line of a word", filled(HEAD + b"free ", b"A")
     yield "comments", filled(PLAIN, b"# a comment that fills the text\n")
     yield "blank lines", filled(b"", b"\n")
+    for file in sorted(pathlib.Path(__file__).resolve().parent.glob("*.txt")):
+        yield file.stem, file.read_bytes()
 
 
 def run(program, text):
-    """The status, the seconds and the greatest memory in MB of a run."""
-    with tempfile.TemporaryFile() as source, open(os.devnull, "wb") as sink:
+    """The status, the seconds, the greatest memory in MB and the turns of a run."""
+    with tempfile.TemporaryFile() as source, tempfile.TemporaryFile() as sink:
         source.write(text)
         source.seek(0)
         begin = time.monotonic()
@@ -58,15 +62,18 @@ def run(program, text):
             file_actions=[(os.POSIX_SPAWN_DUP2, source.fileno(), 0), (os.POSIX_SPAWN_DUP2, sink.fileno(), 1)],
         )
         _, status, usage = os.wait4(child, 0)
-        return os.waitstatus_to_exitcode(status), time.monotonic() - begin, usage.ru_maxrss / 1024
+        seconds = time.monotonic() - begin
+        sink.seek(0)
+        turns = sum(line.startswith(b"use ") for line in sink)
+        return os.waitstatus_to_exitcode(status), seconds, usage.ru_maxrss / 1024, turns
 
 
 def main():
     if len(sys.argv) != 2:
         sys.exit(__doc__)
     for name, text in texts():
-        status, seconds, memory = run(sys.argv[1], text)
-        print(f"{name:22} {len(text):8} bytes  status {status}  {seconds:6.3f} s  {memory:6.1f} MB")
+        status, seconds, memory, turns = run(sys.argv[1], text)
+        print(f"{name:22} {len(text):8} bytes  status {status}  {seconds:6.3f} s  {memory:6.1f} MB  {turns:6} turns")
 
 
 main()

@@ -1,9 +1,10 @@
-pub mod Rows
-pub mod Writing
-pub mod Texts
-pub mod SortedLines
+pub mod WordLists
+pub mod Runnable
+pub mod Refusals
+pub mod Puts
 pub mod Verdicts
 pub mod Inputs
 pub mod AnswerLaws
-pub mod Outcomes
 pub mod Replies
+pub mod Outcomes
+pub mod NamedLogs

@@ -1,41 +1,167 @@
--- Replies to constructions, and to the texts that give them.
-use Rattle.std.proofs.Common.{◌≡◌, ◌⊎◌, List, ℕ, length, Result, Ok, Err, IfOk, IsOkAnd, inr, refl}
+-- Replies to constructions, to the texts that give them, and to whole inputs.
+use Rattle.std.proofs.Common.{◌≡◌, ◌<◌, ◌≤◌, ℕ, List, map, zip, length, codes, inl, inr, Option, None, Some, Result, Ok, Err, IfOk, refl, sym, ap, ◌∙◌, subst}
+use Rattle.std.specs.Prelude.{IsNone}
+use Rattle.coordinate_model.specs.Sequences.{IsRank}
 use Rattle.construction_reader.specs.Said.{Account}
 use Rattle.construction_reader.specs.TextOf.{TextOf}
+use Rattle.construction_reader.specs.Faults as text
+use Rattle.construction_reader.specs.declared.fault.TextFault.{TextFault}
+use Rattle.construction_reader.specs.declared.reading.TheConstants.{LONGEST}
 use Rattle.step_types.specs.Checks as steps
+use Rattle.step_types.specs.declared.fault.StepFault.{StepFault}
+use Rattle.step_types.specs.declared.names.Names.{Names}
+use Rattle.bracket_poly.specs.Sections.{Worked}
+use Rattle.cayley_terms.specs.declared.program.Program.{Program}
+use Rattle.cayley_terms.specs.declared.instr.Instr.{Instr}
+use Rattle.cayley_terms.specs.Built.{IsBuilt, unbuilt_line}
+use Rattle.cayley_terms.specs.Instrs.{measures}
+use Rattle.cayley_terms.specs.Straight.{lowered}
+use Rattle.cayley_terms.specs.Kept.{IsStraight, KeepsNames, polynomial_of}
+use Rattle.cayley_terms.specs.Meaning.{conclusion_polynomial}
+use Rattle.cayley_terms.proofs.BuiltLaws.{none_exactly}
+use Rattle.straightening.specs.Runs.{Stop}
+use Rattle.cayley_run.specs.Runs.{Log, at_start, run_on, run_of}
+use Rattle.cayley_run.specs.RunLaws.{AllEndWell, MeansProgram}
 use Rattle.prover_cli.specs.declared.reply.Reply.{Reply}
-use Rattle.prover_cli.specs.declared.status.Status.TheVariants.{TextRefused}
-use Rattle.prover_cli.specs.Plain.{points_of}
-use Rattle.prover_cli.specs.Answer.{points_answer}
-use Rattle.prover_cli.specs.Outcome.{IsVerdict}
-use Rattle.prover_cli.specs.Reply.{IsReply, IsTextReply, IsAccountReply}
-use Rattle.prover_cli.proofs.Verdicts.{decided_by}
+use Rattle.prover_cli.specs.declared.status.Status.TheVariants.{Stopped}
+use Rattle.prover_cli.specs.Answer.{Answer, refused, refused_at, kind_word, step_word, proof, log_of, proof_answer, good_answer}
+use Rattle.prover_cli.specs.Outcome.{IsInput, IsVerdict, Decides}
+use Rattle.prover_cli.specs.Reply.{answer_of, IsWritable, IsAccountReply, IsTextReply, IsReplyTo}
+use Rattle.prover_cli.proofs.Refusals.{no_verdict, writable}
+use Rattle.prover_cli.proofs.Verdicts.{decided}
 
--- where replying to the points of a good construction succeeds, so does replying to the construction
-pub replies_to_points : {E : Type 0} (r : Result Reply E) (account : Account) → steps.IsGood account
-    → IfOk r (IsReply (points_answer (points_of account)))
-    → IfOk r (λ reply. IsVerdict reply.status ⊎ (reply.status ≡ TextRefused))
-    → IfOk r (λ reply. IsVerdict reply.status → IsOkAnd (points_of account) (λ points. length points.three ≡ 3))
-    → IfOk r (IsAccountReply account)
-replies_to_points (Ok reply) account good is status three =
-    record {
-      answer = points_answer (points_of account);
-      is_answer = inr (good, refl);
-      reply_is = is;
-      status = status;
-      decides = λ verdict text gives. decided_by text account (points_of account) gives refl (three verdict);
-    }
-replies_to_points (Err e) account good is status three = tt
+-- the answer to a good construction, by its first line that is not built
+good_by : (budget : ℕ) (c : Account) (line : Option ℕ) → unbuilt_line c ≡ line
+    → good_answer budget c ≡ elim line [ Some line ↦ refused_at line (codes "later") | None ↦ proof_answer budget c ]
+good_by budget c line e =
+    ap (λ (o : Option ℕ). elim o as (λ x. Answer) [ Some line ↦ refused_at line (codes "later") | None ↦ proof_answer budget c ]) e
 
--- where replying to the construction succeeds, so does replying to the text
-pub replies : {E : Type 0} (r : Result Reply E) (text : List ℕ) (account : Account) → TextOf text account
-    → IfOk r (IsAccountReply account) → IfOk r (IsTextReply text)
-replies (Ok reply) text account gives is =
+-- ---- refusals
+
+-- the reply to a broken step rule
+pub step_refused : {E : Type 0} (budget : ℕ) (c : Account) (fault : StepFault) (r : Result Reply E) → steps.IsFault c fault
+    → IfOk r (λ reply. answer_of reply ≡ refused_at fault.line (step_word fault.kind)) → IfOk r (IsAccountReply budget c)
+step_refused budget c fault (Ok reply) is e =
     record {
-      answer = is.answer;
-      is_answer = inr (account, gives, is.is_answer);
-      reply_is = is.reply_is;
-      status = is.status;
-      decides = λ verdict. is.decides verdict text gives;
+      is_answer = inl (fault, is, e);
+      writable = writable reply _ e;
+      decides = λ verdict text gives. absurd (no_verdict _ _ e verdict);
     }
-replies (Err e) text account gives is = tt
+step_refused budget c fault (Err error) is e = tt
+
+-- the reply to a form that is not built
+pub unbuilt_refused : {E : Type 0} (budget : ℕ) (c : Account) (line : ℕ) (r : Result Reply E) → steps.IsGood c
+    → unbuilt_line c ≡ Some line → IfOk r (λ reply. answer_of reply ≡ refused_at line (codes "later"))
+    → IfOk r (IsAccountReply budget c)
+unbuilt_refused budget c line (Ok reply) good at e =
+    record {
+      is_answer = inr (good, e ∙ sym (good_by budget c (Some line) at));
+      writable = writable reply _ e;
+      decides = λ verdict text gives. absurd (no_verdict _ _ e verdict);
+    }
+unbuilt_refused budget c line (Err error) good at e = tt
+
+-- the reply to a fault of the text
+pub text_refused : {E : Type 0} (budget : ℕ) (input : List ℕ) (fault : TextFault) (r : Result Reply E) → text.IsFault input fault
+    → IfOk r (λ reply. answer_of reply ≡ refused_at fault.line (kind_word fault.kind)) → IfOk r (IsTextReply budget input)
+text_refused budget input fault (Ok reply) is e =
+    record {
+      is_answer = inl (fault, is, e);
+      writable = writable reply _ e;
+      decides = λ verdict. absurd (no_verdict _ _ e verdict);
+    }
+text_refused budget input fault (Err error) is e = tt
+
+-- the reply to an input that is too long
+pub long_refused : (budget : ℕ) (left : Option (List ℕ)) (input : List ℕ) (reply : Reply) → IsInput left input
+    → LONGEST < length input → answer_of reply ≡ refused (codes "long") → IsReplyTo budget left reply
+long_refused budget left input reply is long e =
+    record {
+      input = input;
+      is_input = is;
+      is_answer = inl (long, e);
+      writable = writable reply _ e;
+      decides = λ verdict. absurd (no_verdict _ _ e verdict);
+    }
+
+-- ---- proofs
+
+-- the run of the program is that of the construction
+runs_alike : (budget : ℕ) (c : Account) (p : Program) → IsStraight c p → p.rank ≡ c.rank → run_of budget p ≡ log_of budget c
+unfolding run_of
+runs_alike budget c p straight rank =
+    let alike : p.steps ≡ map (λ m. m.step) (measures c.rank (lowered c).instrs) =
+    p.formed.stepped ∙ ap (λ (instrs : List Instr). map (λ m. m.step) (measures p.rank instrs)) straight.instrs
+    ∙ ap (λ d. map (λ m. m.step) (measures d (lowered c).instrs)) rank in
+    ap (λ d. run_on d (at_start budget) (zip p.instrs p.steps)) rank
+    ∙ ap (λ (instrs : List Instr). run_on c.rank (at_start budget) (zip instrs p.steps)) straight.instrs
+    ∙ ap (λ (ss : List ℕ). run_on c.rank (at_start budget) (zip (lowered c).instrs ss)) alike
+
+no_line : (line : Option ℕ) → IsNone line → line ≡ None
+no_line None none = refl
+no_line (Some n) none = absurd cc
+
+-- a proof is the answer to a built construction
+pub proof_is : (budget : ℕ) (c : Account) (log : Log) → IsBuilt c → log ≡ log_of budget c
+    → proof (steps.names_of c) log.objects log.stop ≡ good_answer budget c
+proof_is budget c log built same =
+    let none : unbuilt_line c ≡ None = no_line (unbuilt_line c) ((none_exactly c.rank c.rows).1 built) in
+    ap (λ (l : Log). proof (steps.names_of c) l.objects l.stop) same ∙ sym (good_by budget c None none)
+
+-- where the run was not stopped, it decides
+pub run_decides : (c : Account) (p : Program) (log : Log) (a : Answer) → p.rank ≡ c.rank
+    → polynomial_of p ≡ conclusion_polynomial c → MeansProgram p log → a ≡ proof (steps.names_of c) log.objects log.stop
+    → IsVerdict a.status → (text : List ℕ) → TextOf text c → Decides text a
+run_decides c p log a rank concludes means is verdict text gives = go log.stop refl
+  where
+    go : (stop : Option Stop) → log.stop ≡ stop → Decides text a
+    go None e =
+        let whole : a ≡ proof (steps.names_of c) log.objects None =
+        is ∙ ap (proof (steps.names_of c) log.objects) e in
+        let found = means.conclusion e in
+        subst (Decides text) (sym whole)
+        (decided c log found.0 (subst IsRank rank p.formed.rank)
+        (subst (λ (d : ℕ). AllEndWell d log.objects) rank means.sections) found.1 (found.2 ∙ concludes) text gives)
+    go (Some stop) e =
+        let s : a.status ≡ Stopped = ap (λ (x : Answer). x.status) (is ∙ ap (proof (steps.names_of c) log.objects) e) in
+        elim verdict [ inl v ↦ absurd cc | inr v ↦ absurd cc ]
+
+-- proofs of the same objects and the same stop
+pub same_proof : (names : Names) (xs ys : List Worked) (s t : Option Stop) → xs ≡ ys → s ≡ t
+    → proof names xs s ≡ proof names ys t
+same_proof names xs ys s t objects stop = ap (λ (os : List Worked). proof names os s) objects ∙ ap (proof names ys) stop
+
+-- the reply that holds the run
+pub proof_replies : (budget : ℕ) (c : Account) (p : Program) (reply : Reply) → steps.IsGood c → IsBuilt c → IsStraight c p
+    → KeepsNames c p → polynomial_of p ≡ conclusion_polynomial c → MeansProgram p (run_of budget p)
+    → answer_of reply ≡ proof (steps.names_of c) (run_of budget p).objects (run_of budget p).stop → IsWritable reply
+    → IsAccountReply budget c reply
+proof_replies budget c p reply good built straight keeps concludes means is writes =
+    record {
+      is_answer = inr (good, is ∙ proof_is budget c (run_of budget p) built (runs_alike budget c p straight keeps.0));
+      writable = writes;
+      decides = run_decides c p (run_of budget p) (answer_of reply) keeps.0 concludes means is;
+    }
+
+-- ---- from constructions to texts, and to inputs
+
+pub text_replies : {E : Type 0} (budget : ℕ) (r : Result Reply E) (input : List ℕ) (c : Account) → TextOf input c
+    → IfOk r (IsAccountReply budget c) → IfOk r (IsTextReply budget input)
+text_replies budget (Ok reply) input c gives is =
+    record {
+      is_answer = inr (c, gives, is.is_answer);
+      writable = is.writable;
+      decides = λ verdict. is.decides verdict input gives;
+    }
+text_replies budget (Err error) input c gives is = tt
+
+pub input_replies : (budget : ℕ) (left : Option (List ℕ)) (input : List ℕ) (reply : Reply) → IsInput left input
+    → length input ≤ LONGEST → IsTextReply budget input reply → IsReplyTo budget left reply
+input_replies budget left input reply is short replies =
+    record {
+      input = input;
+      is_input = is;
+      is_answer = inr (short, replies.is_answer);
+      writable = replies.writable;
+      decides = replies.decides;
+    }

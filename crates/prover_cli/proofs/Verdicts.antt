@@ -1,89 +1,148 @@
--- The proof that is written decides the conclusion.
-use Rattle.std.proofs.Common.{◌≡◌, ◌↔◌, IsTrue, ℕ, Bool, true, false, List, [], ◌∷◌, ◌++◌, length, codes, refl, sym, ap, ◌∙◌, append_assoc, Result, Ok, Err, IsOkAnd, slice_index, arith}
-use Rattle.coordinate_model.specs.Sequences.{IsRank, repeats}
-use Rattle.coordinate_model.specs.Polynomial.{Polynomials, br}
-use Rattle.coordinate_model.specs.BracketPolynomial.{BracketPolynomial}
-use Rattle.coordinate_model.specs.Syzygy.{sorted_bracket}
-use Rattle.coordinate_model.proofs.BracketPolynomialLaws.{value_of_sorted, repeated_point}
-use Rattle.coordinate_model.proofs.SortedBrackets.{terms-twice, terms-once, normal-sorted_bracket}
-use Rattle.coordinate_model.proofs.ZeroBrackets.{zero_bracket_law}
-use Rattle.bracket_terms.specs.declared.signed.Signed.{Signed}
-use Rattle.bracket_terms.specs.declared.signed.Signed.TheVariants.{Zero}
+-- What a run of a built construction decides.
+use Rattle.std.proofs.Common.{◌≡◌, ℕ, ◌-◌, ◌<◌, List, [], ◌∷◌, ◌++◌, map, flat_map, length, codes, Option, None, Some, refl, sym, ap, ◌∙◌, subst, arith, append_assoc, append-nil, length-append}
+use Rattle.std.specs.Prelude.{slice_get, decimal}
+use Rattle.std.specs.List.{AllByRecursion}
+use Rattle.std.proofs.Math.Seq.{get_or-append_seam}
+use Rattle.std.proofs.lemmas.Grind.{flat_map-append}
+use Rattle.std.proofs.lemmas.Option.{slice_get-get_or}
+use Rattle.coordinate_model.specs.Sequences.{IsRank}
+use Rattle.coordinate_model.specs.Sums.{Terms, sum_value}
+use Rattle.coordinate_model.specs.Key.{Key, key_value}
+use Rattle.coordinate_model.specs.Polynomial.{Polynomials}
+use Rattle.coordinate_model.specs.Placement.{value_at}
+use Rattle.coordinate_model.specs.BracketPolynomial.{BracketPolynomial, KeySums, IsNormal, value}
+use Rattle.coordinate_model.proofs.Independence.{same_normal}
+use Rattle.coordinate_model.proofs.PolynomialRing.{value_at-hom}
 use Rattle.construction_reader.specs.Said.{Account}
 use Rattle.construction_reader.specs.TextOf.{TextOf}
+use Rattle.step_types.specs.Checks.{names_of}
+use Rattle.step_types.specs.declared.names.Names.{Names}
+use Rattle.bracket_poly.specs.Sections.{Rewritten, Worked}
+use Rattle.cayley_terms.specs.Meaning.{conclusion_polynomial}
+use Rattle.cayley_run.specs.Runs.{Log}
+use Rattle.cayley_run.specs.RunLaws.{IsEndOf, EndsWell, AllEndWell, LastEnds}
+use Rattle.proof_text.specs.Lines.{spaced}
+use Rattle.proof_text.specs.Terms.{point_names, polynomial_lines}
+use Rattle.proof_text.specs.Proofs.{use_line, end_lines, section_lines, object_lines, head_lines}
 use Rattle.prover_cli.specs.declared.status.Status.TheVariants.{Proved, Refuted}
-use Rattle.prover_cli.specs.ProofText.{spaced, polynomial_lines, section_lines, join_lines, verdict_line, proof_lines}
-use Rattle.prover_cli.specs.Plain.{Points, points_of}
-use Rattle.prover_cli.specs.Answer.{verdict, points_answer}
+use Rattle.prover_cli.specs.Answer.{proof, last_of, end_terms, last_terms, verdict, verdict_line}
 use Rattle.prover_cli.specs.Outcome.{Decides}
 
--- a bracket with a point twice is zero, and any other is not
-pub proved_where : (ps : List ℕ) → repeats ps ≡ true → Proved ≡ verdict (sorted_bracket ps).terms
-proved_where ps h = sym (ap verdict (terms-twice ps h))
+-- ---- the last item
 
-pub refuted_where : (ps : List ℕ) → repeats ps ≡ false → Refuted ≡ verdict (sorted_bracket ps).terms
-refuted_where ps h = sym (ap verdict (terms-once ps h))
+last_of-push : {A : Type 0} (xs : List A) (x : A) → last_of (xs ++ x ∷ []) ≡ Some x
+last_of-push xs x =
+    let one : length (xs ++ x ∷ []) - 1 ≡ length xs = omega (arith, length-append xs (x ∷ [])) in
+    let within : length xs < length (xs ++ x ∷ []) = omega (arith, length-append xs (x ∷ [])) in
+    ap (slice_get (xs ++ x ∷ [])) one ∙ slice_get-get_or (xs ++ x ∷ []) (length xs) x within
+    ∙ ap Some (get_or-append_seam xs x [] x)
 
-proved_is_zero : (ps : List ℕ) → IsRank (length ps) → verdict (sorted_bracket ps).terms ≡ Proved → br ps ≡ Polynomials.𝟘
-proved_is_zero ps rank e = split (repeats ps) refl
-  where
-    split : (b : Bool) → repeats ps ≡ b → br ps ≡ Polynomials.𝟘
-    split true h = repeated_point ps rank h
-    split false h = let other : Refuted ≡ Proved = refuted_where ps h ∙ e in absurd (cc)
+all_last : {A : Type 0} (P : A → Type 0) (xs : List A) (x : A) → AllByRecursion P (xs ++ x ∷ []) → P x
+all_last P [] x all = all.0
+all_last P (y ∷ xs) x all = all_last P xs x all.1
 
-refuted_is_not : (ps : List ℕ) → IsRank (length ps) → verdict (sorted_bracket ps).terms ≡ Refuted
-    → br ps ≡ Polynomials.𝟘 → ⊥
-refuted_is_not ps rank e zero =
-    let other : Proved ≡ Refuted = proved_where ps ((zero_bracket_law ps rank).0 zero) ∙ e in absurd (cc)
+-- the terms with which the last section of an object ends
+abbrev in_object : Option Worked → Terms Key
+in_object o = elim o [
+  | None ↦ []
+  | Some object ↦ elim (last_of object.sections) [ None ↦ [] | Some section ↦ end_terms section ]
+]
 
--- the lines of a section, cut before the last `end`
-cut_at_end : (free : List (List ℕ)) (first : List ℕ) (lines join : List (List ℕ)) (verdict : List ℕ)
-    → join ++ (first ∷ (section_lines free [] lines ++ verdict ∷ []))
-    ≡ (join ++ (first ∷ spaced (codes "scalar" ∷ []) ∷ codes "start" ∷ lines)) ++ (codes "end" ∷ (lines ++ verdict ∷ []))
-cut_at_end free first lines join verdict =
-    ap (λ rest. join ++ (first ∷ spaced (codes "scalar" ∷ []) ∷ codes "start" ∷ rest))
-    (append_assoc lines (codes "end" ∷ lines) (verdict ∷ []))
-    ∙ sym (append_assoc join (first ∷ spaced (codes "scalar" ∷ []) ∷ codes "start" ∷ lines)
-    (codes "end" ∷ (lines ++ verdict ∷ [])))
+-- the terms with which a log ends
+terms_at_end : (log : Log) (end : BracketPolynomial) → LastEnds log end → last_terms log.objects ≡ end.terms
+terms_at_end log end e =
+    let object : Worked = record { number = e.number; step = e.step; sections = e.section ∷ [] } in
+    let in_end = λ (o : Option BracketPolynomial). elim o as (λ x. Terms Key) [ None ↦ [] | Some polynomial ↦ polynomial.terms ] in
+    ap last_terms e.last ∙ ap in_object (last_of-push e.front object) ∙ ap in_end e.ends
 
--- the answer to a construction of points decides it
-decided : (input : List ℕ) (account : Account) (points : Points) → TextOf input account → points_of account ≡ Ok points
-    → length points.three ≡ 3 → Decides input (points_answer (Ok points))
-unfolding proof_lines
-decided input account points gives are_points count =
-    let ps : List ℕ = points.three in
-    let free : List (List ℕ) = points.free in
-    let polynomial : BracketPolynomial = sorted_bracket ps in
-    let rank : IsRank (length ps) = (omega arith, omega arith) in
-    let join : List (List ℕ) = join_lines free (slice_index ps 0 ∷ slice_index ps 1 ∷ []) in
-    let lines : List (List ℕ) = polynomial_lines free polynomial in
+-- and its last section is well ended
+well_ended : (d : ℕ) (log : Log) (end : BracketPolynomial) → AllEndWell d log.objects → LastEnds log end → IsNormal d 64 end
+well_ended d log end all e =
+    let object : Worked = record { number = e.number; step = e.step; sections = e.section ∷ [] } in
+    let each : AllByRecursion (λ (o : Worked). AllByRecursion (EndsWell d) o.sections) (e.front ++ object ∷ []) =
+    subst (AllEndWell d) e.last all in
+    let last : EndsWell d e.section =
+    (all_last (λ (o : Worked). AllByRecursion (EndsWell d) o.sections) e.front object each).0 in
+    let is : IsEndOf d e.section.start end = rw e.ends at last in is.normal
+
+-- ---- the lines
+
+-- the lines of an object of one section that has an end
+object_ends : (names : Names) (number step : ℕ) (s : Rewritten) (end : BracketPolynomial) → s.end ≡ Some end
+    → (front : List (List ℕ))
+    × (object_lines names (record { number = number; step = step; sections = s ∷ [] })
+    ≡ front ++ (codes "end" ∷ polynomial_lines names end))
+object_ends names number step s end is =
+    let title = spaced (codes "object" ∷ decimal number ∷ codes "step" ∷ decimal step ∷ []) in
+    let scalar = spaced (codes "scalar" ∷ point_names names s.scalar) in
+    let start = polynomial_lines names s.start in
+    let uses = map (use_line names) s.uses in (
+      title ∷ scalar ∷ codes "start" ∷ (start ++ uses),
+      ap (λ (ls : List (List ℕ)). title ∷ ls)
+          (append-nil (section_lines names s)
+          ∙ ap (λ (ls : List (List ℕ)). scalar ∷ codes "start" ∷ ls)
+          (ap (λ (o : Option BracketPolynomial). start ++ (uses ++ end_lines names o)) is
+          ∙ sym (append_assoc start uses (codes "end" ∷ polynomial_lines names end)))),
+    )
+
+lines_end : {A : Type 0} (head : List (List ℕ)) (f : A → List (List ℕ)) (xs : List A) (x : A) (front tail last : List (List ℕ))
+    → f x ≡ front ++ tail
+    → head ++ (flat_map f (xs ++ x ∷ []) ++ last) ≡ (head ++ (flat_map f xs ++ front)) ++ (tail ++ last)
+lines_end head f xs x front tail last e =
+    let before = flat_map f xs in
+    let object : flat_map f (x ∷ []) ≡ front ++ tail = append-nil (f x) ∙ e in
+    ap (λ ls. head ++ (ls ++ last)) (flat_map-append f xs (x ∷ []) ∙ ap (λ ls. before ++ ls) object)
+    ∙ ap (λ ls. head ++ ls) (append_assoc before (front ++ tail) last
+    ∙ ap (λ ls. before ++ ls) (append_assoc front tail last) ∙ sym (append_assoc before front (tail ++ last)))
+    ∙ sym (append_assoc head (before ++ front) (tail ++ last))
+
+-- ---- zero
+
+is_proved : (ts : Terms Key) → verdict ts ≡ Proved → ts ≡ []
+is_proved [] e = refl
+is_proved (t ∷ ts) e = absurd cc
+
+not_refuted : (ts : Terms Key) → verdict ts ≡ Refuted → ts ≡ [] → ⊥
+not_refuted [] e none = cc
+not_refuted (t ∷ ts) e none = cc
+
+zero_value : (f : BracketPolynomial) → f.terms ≡ [] → value f ≡ Polynomials.𝟘
+unfolding value
+zero_value f none = ap (sum_value Polynomials key_value) none
+
+no_terms : (d : ℕ) (f : BracketPolynomial) → IsRank d → IsNormal d 64 f → value f ≡ Polynomials.𝟘 → f.terms ≡ []
+no_terms d f rank normal zero =
+    ap (λ (g : BracketPolynomial). g.terms)
+    (same_normal d 64 rank f KeySums.𝟘 normal tt (zero ∙ sym (zero_value KeySums.𝟘 refl)))
+
+-- ---- what is decided
+
+pub decided : (c : Account) (log : Log) (end : BracketPolynomial) → IsRank c.rank → AllEndWell c.rank log.objects
+    → LastEnds log end → value end ≡ conclusion_polynomial c → (text : List ℕ) → TextOf text c
+    → Decides text (proof (names_of c) log.objects None)
+decided c log end rank well e same text gives =
+    let names = names_of c in
+    let normal = well_ended c.rank log end well e in
+    let object : Worked = record { number = e.number; step = e.step; sections = e.section ∷ [] } in
+    let at_end = object_ends names e.number e.step e.section end e.ends in
+    let terms = terms_at_end log end e in
+    let zero : verdict (last_terms log.objects) ≡ Proved → conclusion_polynomial c ≡ Polynomials.𝟘 =
+    λ (is : verdict (last_terms log.objects) ≡ Proved). sym same ∙ zero_value end (is_proved end.terms (ap verdict (sym terms) ∙ is)) in
     record {
-      account = account;
+      account = c;
       gives = gives;
-      points = points;
-      are_points = are_points;
-      polynomial = polynomial;
-      normal = normal-sorted_bracket 3 ps count;
-      same_value = value_of_sorted ps rank;
-      front = codes "proof 1" ∷ codes "rank 3" ∷ spaced (codes "free" ∷ free) ∷ codes "params" ∷ codes "object 1 step 2"
-          ∷ (join ++ (codes "object 2 step 3" ∷ spaced (codes "scalar" ∷ []) ∷ codes "start" ∷ lines));
-      ends = ap (λ rest. codes "proof 1" ∷ codes "rank 3" ∷ spaced (codes "free" ∷ free) ∷ codes "params"
-          ∷ codes "object 1 step 2" ∷ rest)
-          (cut_at_end free (codes "object 2 step 3") lines join (verdict_line polynomial.terms));
-      proved = proved_is_zero ps rank;
-      refuted = refuted_is_not ps rank;
+      polynomial = end;
+      normal = normal;
+      same_value = same;
+      front = head_lines names ++ (flat_map (object_lines names) e.front ++ at_end.0);
+      ends = ap (λ (ls : List (List ℕ)). head_lines names ++ (ls ++ verdict_line (last_terms log.objects) ∷ []))
+          (ap (flat_map (object_lines names)) e.last)
+          ∙ lines_end (head_lines names) (object_lines names) e.front object at_end.0 (codes "end" ∷ polynomial_lines names end)
+          (verdict_line (last_terms log.objects) ∷ []) at_end.1
+          ∙ ap (λ (ts : Terms Key). (head_lines names ++ (flat_map (object_lines names) e.front ++ at_end.0))
+          ++ ((codes "end" ∷ polynomial_lines names end) ++ verdict_line ts ∷ [])) terms;
+      proved = zero;
+      everywhere = λ is at. ap (value_at at) (zero is) ∙ (value_at-hom at).to_zero;
+      refuted = λ is vanishes.
+          not_refuted end.terms (ap verdict (sym terms) ∙ is) (no_terms c.rank end rank normal (same ∙ vanishes));
     }
-
--- whatever the points are, where there are some
-pub decided_by : (input : List ℕ) (account : Account) (r : Result Points ℕ) → TextOf input account → points_of account ≡ r
-    → IsOkAnd r (λ points. length points.three ≡ 3) → Decides input (points_answer r)
-decided_by input account (Ok points) gives e count = decided input account points gives e count
-decided_by input account (Err line) gives e none = absurd none
-
--- what sorting does not call zero has no point twice
-pub once_where : {d : ℕ} (ps : List ℕ) (r : Signed d) → (r ≡ Zero) ↔ IsTrue (repeats ps) → (r ≡ Zero → ⊥) → repeats ps ≡ false
-once_where ps r zero not = split (repeats ps) refl
-  where
-    split : (b : Bool) → repeats ps ≡ b → b ≡ false
-    split true h = absurd (not (zero.1 h))
-    split false h = refl

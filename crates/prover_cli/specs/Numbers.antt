@@ -1,7 +1,7 @@
 -- The number with which the program ends, by its status.
 use Rattle.std.specs.Prelude.{ℕ}
 use Rattle.prover_cli.specs.declared.status.Status.{Status}
-use Rattle.prover_cli.specs.declared.status.Status.TheVariants.{Proved, Refuted, Usage, TextRefused, ReadFault, WriteFault, Memory}
+use Rattle.prover_cli.specs.declared.status.Status.TheVariants.{Proved, Refuted, Usage, TextRefused, Stopped, ReadFault, WriteFault, Memory}
 
 -- the number of a status
 abbrev pub number_of : Status → ℕ
@@ -9,6 +9,7 @@ number_of Proved = 0
 number_of Refuted = 1
 number_of Usage = 2
 number_of TextRefused = 3
+number_of Stopped = 4
 number_of ReadFault = 5
 number_of WriteFault = 6
 number_of Memory = 7

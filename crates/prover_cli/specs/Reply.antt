@@ -1,40 +1,52 @@
 -- Replies: what the program keeps of an answer before it writes it.
-use Rattle.std.specs.Prelude.{◌≡◌, ◌⊎◌, ℕ, List, Option}
-use Rattle.prover_cli.specs.declared.reply.Reply.{Reply}
-use Rattle.prover_cli.specs.declared.status.Status.TheVariants.{TextRefused}
-use Rattle.prover_cli.specs.ProofText.{text_of}
+use Rattle.std.specs.Prelude.{◌≡◌, ◌⊎◌, ℕ, List, map, Option}
+use Rattle.std.specs.Option.{option_map}
+use Rattle.std.specs.List.{AllByRecursion}
 use Rattle.construction_reader.specs.Said.{Account}
+use Rattle.construction_reader.specs.Seen.{account}
 use Rattle.construction_reader.specs.TextOf.{TextOf}
-use Rattle.prover_cli.specs.Answer.{Answer, IsAccountAnswer, IsTextAnswer, IsProveAnswer}
+use Rattle.step_types.specs.Checks.{names_of}
+use Rattle.bracket_poly.specs.Sections.{worked_of, Worked}
+use Rattle.cayley_run.specs.Results.{stop_of}
+use Rattle.proof_text.specs.Proofs.{IsSectionNamed}
+use Rattle.step_types.specs.declared.names.Names.{Names}
+use Rattle.prover_cli.specs.declared.reply.Reply.{Reply}
+use Rattle.prover_cli.specs.declared.reply.Reply.TheVariants as reply
+use Rattle.prover_cli.specs.declared.reply.Proof.{Proof}
+use Rattle.prover_cli.specs.Answer.{Answer, refused, proof, IsTextAnswer, IsAccountAnswer, IsProveAnswer}
 use Rattle.prover_cli.specs.Outcome.{IsInput, IsVerdict, Decides}
 
--- the reply has the status and the text of the answer
-pub record IsReply (answer : Answer) (reply : Reply) : Type 0 where
-  pub status : reply.status ≡ answer.status
-  pub text : reply.text.items ≡ text_of answer.lines
+-- the answer that a reply stands for
+abbrev pub answer_of : Reply → Answer
+answer_of (reply.Refused reason) = refused reason.items
+answer_of (reply.Proof p) =
+    proof (names_of (account p.checked)) (map worked_of p.objects) (option_map stop_of p.stop)
 
--- a reply to the whole input, which is what the source had left
-pub record IsReplyTo (left : Option (List ℕ)) (reply : Reply) : Type 0 where
-  pub input : List ℕ
-  pub is_input : IsInput left input
-  pub answer : Answer
-  pub is_answer : IsProveAnswer input answer
-  pub reply_is : IsReply answer reply
-  pub status : IsVerdict reply.status ⊎ (reply.status ≡ TextRefused)
-  pub decides : IsVerdict reply.status → Decides input answer
+-- all points and parameters of the objects have names
+abbrev pub AreNamed : Names → List Worked → Type 0
+AreNamed names objects = AllByRecursion (λ o. AllByRecursion (IsSectionNamed names) o.sections) objects
+
+-- what a reply holds can be written
+abbrev pub IsWritable : Reply → Type 0
+IsWritable (reply.Refused reason) = Unit {0}
+IsWritable (reply.Proof p) = AreNamed (names_of (account p.checked)) (map worked_of p.objects)
+
+-- a reply to a construction, with so many turns, which decides each text that gives it
+pub record IsAccountReply (budget : ℕ) (c : Account) (r : Reply) : Type 0 where
+  pub is_answer : IsAccountAnswer budget c (answer_of r)
+  pub writable : IsWritable r
+  pub decides : IsVerdict (answer_of r).status → (text : List ℕ) → TextOf text c → Decides text (answer_of r)
 
 -- a reply to a text
-pub record IsTextReply (text : List ℕ) (reply : Reply) : Type 0 where
-  pub answer : Answer
-  pub is_answer : IsTextAnswer text answer
-  pub reply_is : IsReply answer reply
-  pub status : IsVerdict reply.status ⊎ (reply.status ≡ TextRefused)
-  pub decides : IsVerdict reply.status → Decides text answer
+pub record IsTextReply (budget : ℕ) (text : List ℕ) (r : Reply) : Type 0 where
+  pub is_answer : IsTextAnswer budget text (answer_of r)
+  pub writable : IsWritable r
+  pub decides : IsVerdict (answer_of r).status → Decides text (answer_of r)
 
--- a reply to a construction, which decides each text that gives it
-pub record IsAccountReply (account : Account) (reply : Reply) : Type 0 where
-  pub answer : Answer
-  pub is_answer : IsAccountAnswer account answer
-  pub reply_is : IsReply answer reply
-  pub status : IsVerdict reply.status ⊎ (reply.status ≡ TextRefused)
-  pub decides : IsVerdict reply.status → (text : List ℕ) → TextOf text account → Decides text answer
+-- a reply to the whole input, which is what the source had left
+pub record IsReplyTo (budget : ℕ) (left : Option (List ℕ)) (r : Reply) : Type 0 where
+  pub input : List ℕ
+  pub is_input : IsInput left input
+  pub is_answer : IsProveAnswer budget input (answer_of r)
+  pub writable : IsWritable r
+  pub decides : IsVerdict (answer_of r).status → Decides input (answer_of r)

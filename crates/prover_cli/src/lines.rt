@@ -1,11 +1,14 @@
 //! Lines of text, and putting them into a sink.
 
-ghost use Rattle.std.specs.Prelude.{◌<◌, ◌≤◌, ◌∷◌, [], length, OnOk};
+ghost use Rattle.std.specs.Prelude.{◌≡◌, ℕ, ◌<◌, ◌≤◌, List, ◌∷◌, [], length, OnOk};
+ghost use Rattle.proof_text.specs.Lines.{text_of};
 ghost use Rattle.cay_base.specs.Bytes.{Puts};
 ghost use Rattle.cay_base.specs.Causes.{HasCause};
-ghost use Rattle.prover_cli.specs.ProofText.{AddsLines};
+ghost use Rattle.proof_text.specs.Writes.{Writes};
+ghost use Rattle.prover_cli.specs.Lines.{AddsLines};
 
 use cay_base::{Failed, NoMemory, Sink};
+use proof_text::WriteError;
 
 /// Puts a line with this text behind the others.
 pub fn add_line(out: &mut Vec<u8>, text: &[u8]) -> Result<(), NoMemory>
@@ -39,4 +42,11 @@ fn line_length(text: &[u8]) -> usize
         Some(end) => end + 1,
         None => text.len(),
     }
+}
+
+/// Puts each line of the text by itself, as `put_lines` does, and tells a failure as a fault of writing.
+pub fn put_text<K: Sink>(sink: &mut K, text: &[u8]) -> Result<(), WriteError>
+    ensures { (lines : List (List ℕ)) → text.now ≡ text_of lines → Writes (K.held sink.old) (K.held sink.new) (K.faults sink.old) (K.faults sink.new) result lines }
+{
+    Ok(put_lines(sink, text)?)
 }

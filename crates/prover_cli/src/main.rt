@@ -4,11 +4,11 @@
 
 mod laws;
 mod lines;
-mod plain;
-mod proof_text;
 mod reply;
 mod run;
 mod status;
+mod words;
+mod writing;
 
 use cay_base::{StdSink, StdSource};
 use run::run;

@@ -13,6 +13,8 @@ pub enum Status {
     Usage,
     /// The text is not one that the program takes.
     TextRefused,
+    /// The run passed a limit.
+    Stopped,
     /// The source failed.
     ReadFault,
     /// The sink failed.
@@ -33,6 +35,7 @@ impl Status {
             Status::Refuted => 1,
             Status::Usage => 2,
             Status::TextRefused => 3,
+            Status::Stopped => 4,
             Status::ReadFault => 5,
             Status::WriteFault => 6,
             Status::Memory => 7,

@@ -33,7 +33,7 @@ fn words_of(alloc: Global, words: &[&str]) -> Result<Vec<String>, AllocError> {
 fn answer_to(alloc: Global, words: &[&str], input: &[u8]) -> Result<(Status, Vec<u8>), Fail> {
     let words = words_of(alloc, words)?;
     let mut source = WholeSource::new(input.to_vec(alloc)?);
-    let mut sink = WholeSink::with_room(alloc, 16384)?;
+    let mut sink = WholeSink::with_room(alloc, 1 << 20)?;
     let status = run(alloc, &words, &mut source, &mut sink);
     Ok((status, sink.bytes().to_vec(alloc)?))
 }
@@ -78,7 +78,7 @@ fn decides_plain_texts(rt: HostRuntime) -> Result<(), Fail> {
 
 #[test]
 fn refuses_other_texts(rt: HostRuntime) -> Result<(), Fail> {
-    let cases: [(&[u8], &str); 20] = [
+    let cases: [(&[u8], &str); 19] = [
         (b"", "1 noheader"),
         (b"construction 2\n", "1 noheader"),
         (b"construction 1\nrank 2\n", "2 noheader"),
@@ -124,11 +124,7 @@ fn refuses_other_texts(rt: HostRuntime) -> Result<(), Fail> {
             "3 later",
         ),
         (
-            b"construction 1\nrank 3\nfree A B\nline l = join A B\nconclude incident A l\n",
-            "4 later",
-        ),
-        (
-            b"construction 1\nrank 3\nfree A B C\nconclude collinear A B (meet (join A B) (join B C))\n",
+            b"construction 1\nrank 3\nfree A B C\npoint P = on A B with s t\nconclude collinear A B P\n",
             "4 later",
         ),
         (
@@ -196,13 +192,143 @@ fn keeps_the_limits(rt: HostRuntime) -> Result<(), Fail> {
     Ok(())
 }
 
+/// Three lines, of which two turns decide whether they are concurrent.
+const TWO_TURNS: &[u8] =
+    b"construction 1\nrank 3\nfree A B C D E F\nconclude concurrent (join A B) (join D E) (join C F)\n";
+
+/// The same three lines in an order in which one turn decides.
+const ONE_TURN: &[u8] =
+    b"construction 1\nrank 3\nfree A B C D E F\nconclude concurrent (join C F) (join A B) (join D E)\n";
+
+/// Texts with the words after `prove`, the status, and how the output ends.
+const PROOFS: [(&[u8], &[&str], Status, &[u8]); 7] = [
+    (
+        ONE_TURN,
+        &["--budget", "1"],
+        Status::Refuted,
+        b"\nuse +1 ; A B ; C D E F ;\nend\n+1 [A B D] [C E F]\n-1 [A B E] [C D F]\nrefuted\n",
+    ),
+    (
+        TWO_TURNS,
+        &["--budget", "1"],
+        Status::Stopped,
+        b"\nstart\n-1 [A C F] [B D E]\n+1 [A D E] [B C F]\nuse -1 ; A ; B C D E ; F\nstopped turns\n",
+    ),
+    (
+        TWO_TURNS,
+        &["--budget", "2"],
+        Status::Refuted,
+        b"\nuse -1 ; A ; B C D E ; F\nuse +1 ; A C ; B D E F ;\nend\n+1 [A B D] [C E F]\n-1 [A B E] [C D F]\nrefuted\n",
+    ),
+    (
+        TWO_TURNS,
+        &["--budget", "10000000"],
+        Status::Refuted,
+        b"\nend\n+1 [A B D] [C E F]\n-1 [A B E] [C D F]\nrefuted\n",
+    ),
+    (
+        b"construction 1\nrank 3\nfree A B C D E F\nline l = join A B\nline m = join C D\nline n = join E F\nconclude concurrent l m n\n",
+        &[],
+        Status::Refuted,
+        b"\nobject 5 step 0\nscalar\nstart\n+1 [A C D] [B E F]\n-1 [A E F] [B C D]\nuse +1 ; A ; B C E F ; D\nuse -1 ; A C ; B D E F ;\nuse +1 ; A B ; C D E F ;\nend\n-1 [A B C] [D E F]\n+1 [A B D] [C E F]\nrefuted\n",
+    ),
+    // Equal points, whose difference is zero only behind two turns.
+    (
+        b"construction 1\nrank 3\nfree A B C D E\npoint P = meet (join A B) (join C D)\npoint Q = meet (join C D) (join A B)\nconclude collinear P Q E\n",
+        &[],
+        Status::Proved,
+        b"\nstart\n+1 [A B C] [A C D] [B D E]\n-1 [A B C] [A D E] [B C D]\n-1 [A B D] [A C D] [B C E]\n+1 [A B D] [A C E] [B C D]\nuse -1 [A B D] ; A C ; B C D E ;\nuse +1 [A B C] ; A ; B C D E ; D\nend\nzero\nproved\n",
+    ),
+    // A line that meets itself.
+    (
+        b"construction 1\nrank 3\nfree A B C D\nline l = join A B\npoint X = meet l l\npoint Y = meet l (join C D)\nconclude collinear X Y A\n",
+        &[],
+        Status::Proved,
+        b"\nscalar\nstart\nzero\nend\nzero\nproved\n",
+    ),
+];
+
+#[test]
+fn writes_proofs(rt: HostRuntime) -> Result<(), Fail> {
+    let alloc = rt.alloc();
+    for (input, options, status, output) in PROOFS {
+        let mut words = vec![in alloc; "prove"]?;
+        words.extend_from_slice(options)?;
+        let (answered, written) = answer_to(alloc, &words, input)?;
+        assert_eq!(rt; answered, status, "at {options:?}");
+        assert!(rt; written.as_slice().ends_with(output), "at {options:?}");
+    }
+    Ok(())
+}
+
+/// A text of which the conclusion has so many rows and one more, each in variables of its own.
+fn text_with_rows(alloc: Global, rows: u32) -> Result<String, AllocError> {
+    let mut text = String::from_str(alloc, "construction 1\nrank 3\nfree A B C")?;
+    for k in 1..=rows {
+        text.push_str(format!(in alloc; " E{k} F{k}")?.as_str())?;
+    }
+    text.push_str("\npoint P1 = meet (join A B) (join E1 F1)")?;
+    for k in 2..=rows {
+        let before = k.saturating_sub(1);
+        text.push_str(format!(in alloc;
+            "\npoint P{k} = meet (join P{before} A) (join E{k} F{k})"
+        )?.as_str())?;
+    }
+    text.push_str(format!(in alloc; "\nconclude collinear P{rows} A C\n")?.as_str())?;
+    Ok(text)
+}
+
+#[test]
+fn keeps_products_as_they_are(rt: HostRuntime) -> Result<(), Fail> {
+    let alloc = rt.alloc();
+    let mut product = String::from_str(alloc, "-1 [A B C]")?;
+    for k in 1..=63 {
+        product.push_str(format!(in alloc; " [A E{k} F{k}]")?.as_str())?;
+    }
+    let output = format!(in alloc; "\nstart\n{product}\nend\n{product}\nrefuted\n")?;
+    let text = text_with_rows(alloc, 63)?;
+    let (status, written) = answer_to(alloc, &["prove"], text.as_bytes())?;
+    assert_eq!(rt; status, Status::Refuted);
+    assert!(rt; written.as_slice().ends_with(output.as_bytes()));
+    Ok(())
+}
+
+#[test]
+fn tells_where_a_line_fails(rt: HostRuntime) -> Result<(), Fail> {
+    let alloc = rt.alloc();
+    let words = words_of(alloc, &["prove"])?;
+    let (_, whole) = answer_to(alloc, &["prove"], ONE_TURN)?;
+    let mut line: u32 = 0;
+    let mut before: usize = 0;
+    for (last, byte) in whole.iter().enumerate() {
+        if *byte == b'\n' {
+            // All lines before this one are written, and its first half.
+            let bytes = (last + 1).saturating_sub(before);
+            let held = before.saturating_add(bytes / 2);
+            let mut source = WholeSource::new(ONE_TURN.to_vec(alloc)?);
+            let mut sink = MemSink::with_room(alloc, 16384, vec![in alloc; line]?)?;
+            let status = run(alloc, &words, &mut source, &mut sink);
+            assert_eq!(rt; status, Status::WriteFault, "at line {line}");
+            assert!(rt; whole.get(..held) == Some(sink.bytes()), "at line {line}");
+            before = last + 1;
+            line = line.saturating_add(1);
+        }
+    }
+    assert!(rt; line > 2);
+    Ok(())
+}
+
 #[test]
 fn tells_the_usage(rt: HostRuntime) -> Result<(), Fail> {
     let alloc = rt.alloc();
-    let cases: [&[&str]; 6] = [
+    let cases: [&[&str]; 10] = [
         &[],
         &["Prove"],
         &["prove", "--budget", "0"],
+        &["prove", "--budget", "01"],
+        &["prove", "--budget", "10000001"],
+        &["prove", "--budget"],
+        &["prove", "--budget", "5", "--budget", "5"],
         &["check", "--contract"],
         &["sample", "13"],
         &["--help"],

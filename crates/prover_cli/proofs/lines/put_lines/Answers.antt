@@ -1,6 +1,6 @@
 use Rattle.std.proofs.Common.{◌≡◌, ◌++◌, arith}
 use Rattle.std.proofs.lemmas.List.{take-append-drop}
-use Rattle.prover_cli.proofs.Writing.{put_more, put_front, puts_front}
+use Rattle.prover_cli.proofs.Puts.{put_more, put_front, puts_front}
 use Rattle.prover_cli.proofs.lines.put_lines.Goals as goal
 
 pub returns-in_err-put-clause-bytes : goal.returns-in_err-put-clause-bytes

@@ -1,5 +1,5 @@
 use Rattle.std.proofs.Common.{◌≤◌, length}
-use Rattle.prover_cli.proofs.Writing.{Put}
+use Rattle.prover_cli.proofs.Puts.{Put}
 use Rattle.prover_cli.proofs.lines.put_lines.Given as goal
 
 abbrev pub invariant-loop-rest : goal.invariant-loop-rest

@@ -1,41 +1,43 @@
-use Rattle.std.proofs.Common.{◌≡◌, ◌∙◌, ℕ, List, true, false, map, refl, inl, inr, sym}
+use Rattle.std.proofs.Common.{◌≡◌, ℕ, List, map, refl, inl, inr}
 use Rattle.std.specs.Prelude.{string_bytes}
-use Rattle.prover_cli.specs.declared.status.Status.TheVariants.{Usage}
-use Rattle.prover_cli.specs.Answer.{usage, is_prove}
-use Rattle.prover_cli.specs.Reply.{IsReplyTo}
+use Rattle.prover_cli.specs.Answer.{usage}
+use Rattle.prover_cli.specs.Reply.{answer_of, IsReplyTo}
 use Rattle.prover_cli.proofs.AnswerLaws.{some_answer}
 use Rattle.prover_cli.proofs.Inputs.{some_input}
-use Rattle.prover_cli.proofs.Outcomes.{writes_put, writes_nothing, verdict_is, usage_is_none, fault_is_none}
+use Rattle.prover_cli.proofs.Outcomes.{writes_put, writes_nothing, reply_answered, verdict_is, usage_is_none, fault_is_none}
 use Rattle.prover_cli.proofs.run.run.Goals as goal
 
-pub returns-then-not-is_prove-clause-answers : goal.returns-then-not-is_prove-clause-answers
-returns-then-not-is_prove-clause-answers g c =
-    let words : List (List ℕ) = map string_bytes c.args.words.now in
+pub returns-in_default-clause-answers : goal.returns-in_default-clause-answers
+returns-in_default-clause-answers g c =
     let found = some_input (g.S.Source.left c.args.source.now) in
-    let other : is_prove words ≡ false = sym c.is_prove.ensures ∙ c.if-not-is_prove.true in
     record {
       input = found.0;
       is_input = found.1;
       answer = usage;
-      is_answer = inl (other, refl);
-      writes = writes_put usage Usage _ _ _ _ _ _ (inr refl) refl refl c.write.ensures;
-      decides = λ is_verdict. absurd (usage_is_none _ refl (verdict_is _ _ _ _ _ _ _ c.write.ensures is_verdict));
+      is_answer = inl (c.in_default.ensures, refl);
+      writes = writes_put usage _ _ _ _ _ (inr (inl refl)) c.write_usage.ensures.written;
+      decides = λ is_verdict.
+          absurd (usage_is_none _ refl (verdict_is usage _ _ _ _ _ c.write_usage.ensures.written is_verdict));
     }
 
 pub returns-in-Ok-clause-answers : goal.returns-in-Ok-clause-answers
 returns-in-Ok-clause-answers g c =
-    let words : List (List ℕ) = map string_bytes c.args.words.now in
-    let found : IsReplyTo (g.S.Source.left c.args.source.now) c.in-Ok.reply = c.in-Ok.ensures.reply in
-    let prove : is_prove words ≡ true = sym c.is_prove.ensures ∙ c.if-not-is_prove.false in
+    let found : IsReplyTo c.in-Some.budget (g.S.Source.left c.args.source.now) c.in-Ok.reply = c.in-Ok.ensures.reply in
     record {
       input = found.input;
       is_input = found.is_input;
-      answer = found.answer;
-      is_answer = inr (prove, found.is_answer);
-      writes = writes_put found.answer _ _ _ _ _ _ _ (inl found.status) (sym found.reply_is.status)
-          (c.deref.ensures.value ∙ found.reply_is.text) c.write-in-Ok.ensures;
-      decides = λ is_verdict. found.decides (verdict_is _ _ _ _ _ _ _ c.write-in-Ok.ensures is_verdict);
+      answer = answer_of c.in-Ok.reply;
+      is_answer = inr (c.in-Some.budget, c.in-Some.ensures, found.is_answer);
+      writes = writes_put (answer_of c.in-Ok.reply) _ _ _ _ _ (reply_answered c.in-Ok.reply) c.write_reply.ensures;
+      decides = λ is_verdict.
+          found.decides (verdict_is (answer_of c.in-Ok.reply) _ _ _ _ _ c.write_reply.ensures is_verdict);
     }
+
+pub returns-in-Ok-clause-usage : goal.returns-in-Ok-clause-usage
+returns-in-Ok-clause-usage g c = λ none. absurd (none c.in-Some.budget c.in-Some.ensures)
+
+pub returns-in-Ok-clause-unread : goal.returns-in-Ok-clause-unread
+returns-in-Ok-clause-unread g c = λ none. absurd (none c.in-Some.budget c.in-Some.ensures)
 
 pub returns-in-Err-clause-answers : goal.returns-in-Err-clause-answers
 returns-in-Err-clause-answers g c =
@@ -50,3 +52,9 @@ returns-in-Err-clause-answers g c =
       writes = writes_nothing _ _ _ c.in-Err.ensures.err;
       decides = λ is_verdict. absurd (fault_is_none _ c.in-Err.ensures.err is_verdict);
     }
+
+pub returns-in-Err-clause-usage : goal.returns-in-Err-clause-usage
+returns-in-Err-clause-usage g c = λ none. absurd (none c.in-Some.budget c.in-Some.ensures)
+
+pub returns-in-Err-clause-unread : goal.returns-in-Err-clause-unread
+returns-in-Err-clause-unread g c = λ none. absurd (none c.in-Some.budget c.in-Some.ensures)
