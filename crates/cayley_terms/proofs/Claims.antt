@@ -1,5 +1,5 @@
 -- Lowered claims are those of the text.
-use Rattle.std.proofs.Common.{◌≡◌, ℕ, ◌+◌, ◌-◌, ◌*◌, ◌≤◌, true, List, [], ◌∷◌, length, map, Some, ap, refl, arith}
+use Rattle.std.proofs.Common.{◌≡◌, ℕ, ◌+◌, ◌-◌, ◌*◌, ◌≤◌, true, List, [], ◌∷◌, length, map, Some, ap, ◌∙◌, refl, arith}
 use Rattle.std.specs.Prelude.{IsTrue}
 use Rattle.std.specs.List.{AllByRecursion}
 use Rattle.std.proofs.lemmas.Bool.{eqb-true}
@@ -61,6 +61,11 @@ total_parts d made step (o ∷ os) m e =
       degree_is = let r = rest.degree_is in omega arith;
       count = let r = rest.count in omega arith;
     }
+
+-- objects of one step have it together as often as they are
+steps_alike : (step : ℕ) (all : List Measure) → AllByRecursion (λ m. m.step ≡ step) all → steps_in all ≡ length all * step
+steps_alike step [] steps = omega arith
+steps_alike step (m ∷ all) steps = let one = steps.0 in let rest = steps_alike step all steps.1 in omega arith
 
 -- a point and a hyperplane
 pub record ArePointAndHyperplane (d : ℕ) (made : List (List ℕ × Measure)) (os : List Object) (rows degree : ℕ)
@@ -193,13 +198,19 @@ module _ (F : Frame) (d : ℕ) where
           few = let f = parts.few in let g = whole.few in omega arith;
         }
 
-    three_steps : (all : List Measure) → length all ≡ 3 → AllByRecursion (λ m. m.step ≡ 1) all → steps_in all ≡ 3
-    three_steps (a ∷ b ∷ c ∷ []) three steps =
-        let x = steps.0 in let y = steps.1.0 in let z = steps.1.1.0 in omega arith
-    three_steps [] three steps = absurd (omega arith)
-    three_steps (a ∷ []) three steps = absurd (omega arith)
-    three_steps (a ∷ b ∷ []) three steps = absurd (omega arith)
-    three_steps (a ∷ b ∷ c ∷ e ∷ all) three steps = absurd (omega arith)
+    -- a join of objects of one step, which make up the rank together
+    alike_claim : (line step : ℕ) (os : List Object) (s : Lowered) (rows degree : ℕ) → IsSound F d s fs ms
+        → AreTied F d s.instrs s.numbers made objects → HasParts d made step os rows degree → 2 ≤ length os
+        → length os ≤ 6 → length os * step ≡ d → rows + 1 ≤ 64 → degree ≤ 1000
+        → Concludes F d s fs ms
+        (let r = objects_lowered line os s in from_left_lowered instr.Join line r.1 r.0).0
+        (from_left F.ring (joined F.ring) (map (object_figure F d objects) os)) 300
+    alike_claim line step os s rows degree sound tied parts two six whole many large =
+        let count = parts.count in
+        let rows_are = parts.rows_are in
+        let degree_is = parts.degree_is in
+        joins_claim line os s parts.all sound tied parts.measured (omega arith) (omega arith)
+        (steps_alike step parts.all parts.steps ∙ ap (λ n. n * step) count ∙ whole) (omega arith) (omega arith)
 
     -- a claim that is lowered so far
     pub concludes_claim : 2 ≤ d → (line : ℕ) (claim : Claim) (s : Lowered) (m : Measure) → IsSound F d s fs ms
@@ -212,15 +223,10 @@ module _ (F : Frame) (d : ℕ) where
         let same = some_same _ m sum.1.1 in
         let rows_same : sum.0.rows + 1 ≡ m.rows = ap (λ (k : Measure). k.rows) same in
         let degree_same : sum.0.degree ≡ m.degree = ap (λ (k : Measure). k.degree) same in
-        let parts = total_parts d made 1 args sum.0 sum.1.0 in
-        let three : d ≡ 3 = eqb-true d 3 fits in
-        let count = parts.count in
+        let rank : d ≡ 3 = eqb-true d 3 fits in
         let long = formed.0 in
-        let rows_are = parts.rows_are in
-        let degree_is = parts.degree_is in
-        let steps = three_steps parts.all (omega arith) parts.steps in
-        joins_claim line args s parts.all sound tied parts.measured (omega arith) (omega arith) (omega arith) (omega arith)
-        (omega arith)
+        alike_claim line 1 args s sum.0.rows sum.0.degree sound tied (total_parts d made 1 args sum.0 sum.1.0) (omega arith)
+        (omega arith) (omega arith) (omega arith) (omega arith)
     concludes_claim least line (Claim.Concurrent args) s m sound tied formed fits built e rows degree =
         let sum = some_then (total d made (d - 1) args) _ m e in
         let same = some_same _ m sum.1.1 in
@@ -233,8 +239,24 @@ module _ (F : Frame) (d : ℕ) where
         let degree_is = parts.degree_is in
         meets_claim line args s parts.all sound tied parts.measured (omega arith) (omega arith)
         (planes_of d (d - 1) parts.all (omega arith) parts.steps) (omega arith) (omega arith)
-    concludes_claim least line (Claim.Coplanar args) s m sound tied formed fits built e rows degree = absurd cc
-    concludes_claim least line (Claim.Meeting args) s m sound tied formed fits built e rows degree = absurd cc
+    concludes_claim least line (Claim.Coplanar args) s m sound tied formed fits built e rows degree =
+        let sum = some_then (total d made 1 args) _ m e in
+        let same = some_same _ m sum.1.1 in
+        let rows_same : sum.0.rows + 1 ≡ m.rows = ap (λ (k : Measure). k.rows) same in
+        let degree_same : sum.0.degree ≡ m.degree = ap (λ (k : Measure). k.degree) same in
+        let rank : d ≡ 4 = eqb-true d 4 fits in
+        let long = formed.0 in
+        alike_claim line 1 args s sum.0.rows sum.0.degree sound tied (total_parts d made 1 args sum.0 sum.1.0) (omega arith)
+        (omega arith) (omega arith) (omega arith) (omega arith)
+    concludes_claim least line (Claim.Meeting args) s m sound tied formed fits built e rows degree =
+        let sum = some_then (total d made 2 args) _ m e in
+        let same = some_same _ m sum.1.1 in
+        let rows_same : sum.0.rows + 1 ≡ m.rows = ap (λ (k : Measure). k.rows) same in
+        let degree_same : sum.0.degree ≡ m.degree = ap (λ (k : Measure). k.degree) same in
+        let rank : d ≡ 4 = eqb-true d 4 fits in
+        let long = formed.0 in
+        alike_claim line 2 args s sum.0.rows sum.0.degree sound tied (total_parts d made 2 args sum.0 sum.1.0) (omega arith)
+        (omega arith) (omega arith) (omega arith) (omega arith)
     concludes_claim least line (Claim.Incident args) s m sound tied formed fits built e rows degree =
         let sum = some_then (point_and_hyperplane d made args) _ m e in
         let same = some_same _ m sum.1.1 in

@@ -224,16 +224,14 @@ both_true true b e = (refl, e)
 both_true false b e = absurd cc
 
 -- each of the statements has a form that is lowered
-pub built_at : (rank : ℕ) (items : List Statement) (i : ℕ) (s : Statement) → i < length items → s ≡ get_or items i s
-    → IsTrue (list_all (is_built rank) (map row items)) → IsTrue (is_built_sentence (row s).sentence)
-built_at rank [] i s less at all = absurd (omega arith)
-built_at rank (first ∷ items) zero s less at all =
-    let two = both_true (is_built rank (row first)) (list_all (is_built rank) (map row items)) all in
+pub built_at : (items : List Statement) (i : ℕ) (s : Statement) → i < length items → s ≡ get_or items i s
+    → IsTrue (list_all is_built (map row items)) → IsTrue (is_built_sentence (row s).sentence)
+built_at [] i s less at all = absurd (omega arith)
+built_at (first ∷ items) zero s less at all =
     subst (λ x. IsTrue (is_built_sentence (row x).sentence)) (sym at)
-    (both_true (rank == 3) (is_built_sentence (row first).sentence) two.0).1
-built_at rank (first ∷ items) (suc i) s less at all =
-    built_at rank items i s (omega arith) at
-    (both_true (is_built rank (row first)) (list_all (is_built rank) (map row items)) all).1
+    (both_true (is_built (row first)) (list_all is_built (map row items)) all).0
+built_at (first ∷ items) (suc i) s less at all =
+    built_at items i s (omega arith) at (both_true (is_built (row first)) (list_all is_built (map row items)) all).1
 
 -- before the first statement
 pub rows_start : (params : List (List ℕ)) (l : Lowered) (items : List Statement)

@@ -176,7 +176,7 @@ module _ (F : Frame) (d : ℕ) (params : List (List ℕ)) where
   pub whole_rows : 2 ≤ d → d ≤ 4 → (rows : List Row) (s : Lowered) (scene : Scene F) (known last : Known)
       (defs : List (List ℕ)) → Matches F d s scene known.made defs → outcome d known rows ≡ Ok last
       → AllByRecursion IsSentence (sentences_of rows) → EndsOnce (sentences_of rows)
-      → IsTrue (list_all (is_built d) rows) → scene.points + sum_by free_names (sentences_of rows) ≤ 200
+      → IsTrue (list_all is_built rows) → scene.points + sum_by free_names (sentences_of rows) ≤ 200
       → IsWhole (fold (row_lowered params) s rows) (fold (scene_behind F d params) scene (sentences_of rows)) last.made
       (defs ++ flat_map defined_in (sentences_of rows))
   unfolding outcome
@@ -185,9 +185,8 @@ module _ (F : Frame) (d : ℕ) (params : List (List ℕ)) where
       let first = first_taken d known last row [] e in
       let measure = measure_behind known first.0 row (measured d known row.sentence) first.1.0 in
       let end : first.0 ≡ last = let o = first.1.1 in cc in
-      let fine = both_true (is_built d row) true built in
-      let sentence = both_true (d == 3) (is_built_sentence row.sentence) fine.0 in
-      let done = last_row least low row.line row.sentence s scene known defs measure.0 matches ends formed.0 sentence.1
+      let fine = both_true (is_built row) true built in
+      let done = last_row least low row.line row.sentence s scene known defs measure.0 matches ends formed.0 fine.0
       measure.1.0 in
       let made : (known_with known row.sentence measure.0).made ≡ last.made =
       ap (λ (k : Known). k.made) (sym measure.1.1 ∙ end) in
@@ -198,12 +197,11 @@ module _ (F : Frame) (d : ℕ) (params : List (List ℕ)) where
   whole_rows least low (row ∷ next ∷ rows) s scene known last defs matches e formed ends built room =
       let first = first_taken d known last row (next ∷ rows) e in
       let measure = measure_behind known first.0 row (measured d known row.sentence) first.1.0 in
-      let fine = both_true (is_built d row) (list_all (is_built d) (next ∷ rows)) built in
-      let sentence = both_true (d == 3) (is_built_sentence row.sentence) fine.0 in
+      let fine = both_true (is_built row) (list_all is_built (next ∷ rows)) built in
       let sum = sum_by-cons free_names row.sentence (sentences_of (next ∷ rows)) in
       let here = matches.points in
       let behind = points_behind row.sentence scene in
-      let one = match_row least low row.line row.sentence s scene known defs measure.0 matches ends.0 sentence.1
+      let one = match_row least low row.line row.sentence s scene known defs measure.0 matches ends.0 fine.0
       measure.1.0 (omega (arith, sum, here, room)) in
       let there = subst (λ (k : Known). Matches F d (row_lowered params s row)
       (scene_behind F d params scene row.sentence) k.made (defs ++ defined_in row.sentence)) (sym measure.1.1) one in

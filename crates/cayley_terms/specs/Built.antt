@@ -1,5 +1,5 @@
 -- The forms that are lowered so far.
-use Rattle.std.specs.Prelude.{ℕ, Bool, true, false, not, ◌&&◌, ◌==◌, Option, length, find, IsTrue}
+use Rattle.std.specs.Prelude.{ℕ, Bool, true, false, not, Option, find, IsTrue}
 use Rattle.std.specs.List.{list_all}
 use Rattle.std.specs.Option.{option_map}
 use Rattle.construction_reader.specs.Said.{Recipe, Claim, Sentence, Row, Account}
@@ -11,12 +11,12 @@ is_built_recipe (Recipe.Meet a b) = true
 is_built_recipe (Recipe.On a b s t) = false
 is_built_recipe (Recipe.Pascal five through) = false
 
--- whether it is collinear, incident, or concurrent of three
+-- whether it is made of joins or meets alone
 abbrev pub is_built_claim : Claim → Bool
 is_built_claim (Claim.Collinear args) = true
-is_built_claim (Claim.Concurrent args) = length args == 3
-is_built_claim (Claim.Coplanar args) = false
-is_built_claim (Claim.Meeting args) = false
+is_built_claim (Claim.Concurrent args) = true
+is_built_claim (Claim.Coplanar args) = true
+is_built_claim (Claim.Meeting args) = true
 is_built_claim (Claim.Incident args) = true
 is_built_claim (Claim.Conic args) = false
 
@@ -26,14 +26,14 @@ is_built_sentence (Sentence.Free names) = true
 is_built_sentence (Sentence.Define kind name recipe) = is_built_recipe recipe
 is_built_sentence (Sentence.Conclude claim) = is_built_claim claim
 
--- whether a statement of this rank is lowered
-abbrev pub is_built : ℕ → Row → Bool
-is_built rank row = rank == 3 && is_built_sentence row.sentence
+-- whether a statement is lowered
+abbrev pub is_built : Row → Bool
+is_built row = is_built_sentence row.sentence
 
 -- each statement is lowered
 abbrev pub IsBuilt : Account → Type 0
-IsBuilt c = IsTrue (list_all (is_built c.rank) c.rows)
+IsBuilt c = IsTrue (list_all is_built c.rows)
 
 -- the line of the first statement that is not
 abbrev pub unbuilt_line : Account → Option ℕ
-unbuilt_line c = option_map (λ row. row.line) (find (λ row. not (is_built c.rank row)) c.rows)
+unbuilt_line c = option_map (λ row. row.line) (find (λ row. not (is_built row)) c.rows)

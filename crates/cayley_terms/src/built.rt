@@ -3,7 +3,7 @@
 ghost use Rattle.std.specs.Prelude.{◌≡◌, ◌↔◌, IsNone};
 ghost use Rattle.construction_reader.specs.Said.{recipe, claim as said_claim, sentence, row};
 ghost use Rattle.construction_reader.specs.Seen.{account};
-ghost use Rattle.cayley_terms.specs.Built.{is_built_recipe, is_built_claim, is_built_sentence, is_built, IsBuilt, unbuilt_line};
+ghost use Rattle.cayley_terms.specs.Built.{is_built_recipe, is_built_claim, is_built, IsBuilt, unbuilt_line};
 
 use construction_reader::{Body, Conclusion, Expr, Statement};
 use step_types::Checked;
@@ -17,24 +17,17 @@ fn is_built_recipe(expr: &Expr) -> bool
 fn is_built_claim(claim: &Conclusion) -> bool
     ensures { result ≡ is_built_claim (said_claim claim.now) }
 {
-    match claim {
-        Conclusion::Collinear { .. } | Conclusion::Incident { .. } => true,
-        Conclusion::Concurrent { args } => args.items().len() == 3,
-        Conclusion::Coplanar { .. } | Conclusion::Meeting { .. } | Conclusion::Conic { .. } => {
-            false
-        }
-    }
+    !matches!(claim, Conclusion::Conic { .. })
 }
 
-fn is_built(rank: u8, statement: &Statement) -> bool
-    ensures { result ≡ is_built rank (row statement.now) }
+fn is_built(statement: &Statement) -> bool
+    ensures { result ≡ is_built (row statement.now) }
 {
-    rank == 3
-        && match &statement.body {
-            Body::Free(_) => true,
-            Body::Define { expr, .. } => is_built_recipe(expr),
-            Body::Conclude(claim) => is_built_claim(claim),
-        }
+    match &statement.body {
+        Body::Free(_) => true,
+        Body::Define { expr, .. } => is_built_recipe(expr),
+        Body::Conclude(claim) => is_built_claim(claim),
+    }
 }
 
 /// The line of the first statement of a form that `lower` does not take yet.
@@ -42,9 +35,8 @@ pub fn first_unbuilt(c: &Checked) -> Option<u32>
     ensures line { result ≡ unbuilt_line (account c.now) }
     ensures none { IsNone result ↔ IsBuilt (account c.now) }
 {
-    let construction = c.construction();
-    for statement in construction.statements.items() {
-        if !is_built(construction.rank, statement) {
+    for statement in c.construction().statements.items() {
+        if !is_built(statement) {
             return Some(statement.line);
         }
     }

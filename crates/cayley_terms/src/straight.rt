@@ -30,7 +30,7 @@ fn lowering(alloc: Global, c: &Construction) -> Result<Lowering, NoMemory>
     Ok(lowering)
 }
 
-/// The program of a construction of rank 3 whose forms are built.
+/// The program of a construction whose forms are built.
 pub fn lower(alloc: Global, c: &Checked) -> Result<Program, NoMemory>
     requires { IsBuilt (account c.now) }
     ensures meaning { IfOk result (KeepsDefinitions (account c.now)) }

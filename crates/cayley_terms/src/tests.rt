@@ -43,7 +43,7 @@ fn three_lines(rt: HostRuntime) -> Result<(), Fail> {
 #[test]
 fn forms(rt: HostRuntime) -> Result<(), Fail> {
     let alloc = rt.alloc();
-    let cases: [(&[u8], Option<u32>); 5] = [
+    let cases: [(&[u8], Option<u32>); 6] = [
         (
             b"construction 1\nrank 3\nfree A B C\nline l = join A B\n\nconclude incident C l\n",
             None,
@@ -62,7 +62,11 @@ fn forms(rt: HostRuntime) -> Result<(), Fail> {
         ),
         (
             b"construction 1\nrank 4\nfree A B C D\nconclude coplanar A B C D\n",
-            Some(3),
+            None,
+        ),
+        (
+            b"construction 1\nrank 4\nfree A B C\npoint X = on A B with s t\nconclude meeting (join A B) (join C X)\n",
+            Some(4),
         ),
     ];
     for (text, line) in cases {

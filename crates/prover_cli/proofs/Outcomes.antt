@@ -52,7 +52,8 @@ proof_answered objects None = terms_answered (last_terms objects)
 
 pub reply_answered : (r : Reply) → IsAnswered (answer_of r).status
 reply_answered (reply.Refused reason) = inl (inr refl)
-reply_answered (reply.Proof p) = proof_answered (map worked_of p.objects) (option_map stop_of p.stop)
+reply_answered (reply.Plane p) = proof_answered (map worked_of p.objects) (option_map stop_of p.stop)
+reply_answered (reply.Space p) = proof_answered (map worked_of p.objects) (option_map stop_of p.stop)
 
 -- where nothing is put
 pub writes_nothing : (a : Answer) (s : Status) (held : Option (List ℕ)) → (s ≡ ReadFault) ⊎ (s ≡ Memory) → Writes a s held held

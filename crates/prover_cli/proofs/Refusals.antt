@@ -30,4 +30,5 @@ proof_is objects (Some stop) e = cc
 -- what refuses can be written
 pub writable : (r : Reply) (reason : List ℕ) → answer_of r ≡ refused reason → IsWritable r
 writable (reply.Refused bytes) reason e = tt
-writable (reply.Proof p) reason e = absurd (proof_is (map worked_of p.objects) (option_map stop_of p.stop) (ap (λ (x : Answer). x.status) e))
+writable (reply.Plane p) reason e = absurd (proof_is (map worked_of p.objects) (option_map stop_of p.stop) (ap (λ (x : Answer). x.status) e))
+writable (reply.Space p) reason e = absurd (proof_is (map worked_of p.objects) (option_map stop_of p.stop) (ap (λ (x : Answer). x.status) e))

@@ -23,10 +23,12 @@ use Rattle.straightening.specs.Runs.{Stop}
 use Rattle.cayley_run.specs.Runs.{Log, at_start, run_on, run_of}
 use Rattle.cayley_run.specs.RunLaws.{AllEndWell, MeansProgram}
 use Rattle.prover_cli.specs.declared.reply.Reply.{Reply}
+use Rattle.prover_cli.specs.declared.reply.Reply.TheVariants as reply
+use Rattle.prover_cli.specs.declared.reply.Proof.{Proof}
 use Rattle.prover_cli.specs.declared.status.Status.TheVariants.{Stopped}
 use Rattle.prover_cli.specs.Answer.{Answer, refused, refused_at, kind_word, step_word, proof, log_of, proof_answer, good_answer}
 use Rattle.prover_cli.specs.Outcome.{IsInput, IsVerdict, Decides}
-use Rattle.prover_cli.specs.Reply.{answer_of, IsWritable, IsAccountReply, IsTextReply, IsReplyTo}
+use Rattle.prover_cli.specs.Reply.{answer_of, proof_of, IsWritable, IsNamedProof, IsAccountReply, IsProofOf, IsTextReply, IsReplyTo}
 use Rattle.prover_cli.proofs.Refusals.{no_verdict, writable}
 use Rattle.prover_cli.proofs.Verdicts.{decided}
 
@@ -105,7 +107,7 @@ no_line (Some n) none = absurd cc
 pub proof_is : (budget : ℕ) (c : Account) (log : Log) → IsBuilt c → log ≡ log_of budget c
     → proof (steps.names_of c) log.objects log.stop ≡ good_answer budget c
 proof_is budget c log built same =
-    let none : unbuilt_line c ≡ None = no_line (unbuilt_line c) ((none_exactly c.rank c.rows).1 built) in
+    let none : unbuilt_line c ≡ None = no_line (unbuilt_line c) ((none_exactly c.rows).1 built) in
     ap (λ (l : Log). proof (steps.names_of c) l.objects l.stop) same ∙ sym (good_by budget c None none)
 
 -- where the run was not stopped, it decides
@@ -131,17 +133,24 @@ pub same_proof : (names : Names) (xs ys : List Worked) (s t : Option Stop) → x
     → proof names xs s ≡ proof names ys t
 same_proof names xs ys s t objects stop = ap (λ (os : List Worked). proof names os s) objects ∙ ap (proof names ys) stop
 
--- the reply that holds the run
-pub proof_replies : (budget : ℕ) (c : Account) (p : Program) (reply : Reply) → steps.IsGood c → IsBuilt c → IsStraight c p
-    → KeepsNames c p → polynomial_of p ≡ conclusion_polynomial c → MeansProgram p (run_of budget p)
-    → answer_of reply ≡ proof (steps.names_of c) (run_of budget p).objects (run_of budget p).stop → IsWritable reply
-    → IsAccountReply budget c reply
-proof_replies budget c p reply good built straight keeps concludes means is writes =
+-- the proof that holds the run
+pub is_proof : {d : ℕ} (budget : ℕ) (c : Account) (p : Program) (held : Proof d) → steps.IsGood c → IsBuilt c
+    → IsStraight c p → KeepsNames c p → polynomial_of p ≡ conclusion_polynomial c → MeansProgram p (run_of budget p)
+    → proof_of held ≡ proof (steps.names_of c) (run_of budget p).objects (run_of budget p).stop → IsNamedProof held
+    → IsProofOf budget c held
+is_proof budget c p held good built straight keeps concludes means is writes =
     record {
       is_answer = inr (good, is ∙ proof_is budget c (run_of budget p) built (runs_alike budget c p straight keeps.0));
       writable = writes;
-      decides = run_decides c p (run_of budget p) (answer_of reply) keeps.0 concludes means is;
+      decides = run_decides c p (run_of budget p) (proof_of held) keeps.0 concludes means is;
     }
+
+-- the reply that holds a proof of its rank
+pub plane_replies : (budget : ℕ) (c : Account) (p : Proof 3) → IsProofOf budget c p → IsAccountReply budget c (reply.Plane p)
+plane_replies budget c p is = record { is_answer = is.is_answer; writable = is.writable; decides = is.decides }
+
+pub space_replies : (budget : ℕ) (c : Account) (p : Proof 4) → IsProofOf budget c p → IsAccountReply budget c (reply.Space p)
+space_replies budget c p is = record { is_answer = is.is_answer; writable = is.writable; decides = is.decides }
 
 -- ---- from constructions to texts, and to inputs
 

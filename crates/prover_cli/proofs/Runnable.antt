@@ -1,10 +1,8 @@
 -- What built constructions are lowered to is run.
 use Rattle.std.proofs.Common.{◌≡◌, ℕ, Bool, true, false, ◌&&◌, List, [], ◌∷◌, ◌++◌, fold, refl, sym, subst}
-use Rattle.std.specs.Prelude.{◌==◌, IsTrue}
+use Rattle.std.specs.Prelude.{IsTrue}
 use Rattle.std.specs.List.{AllByRecursion, list_all}
-use Rattle.std.proofs.lemmas.Bool.{eqb-true}
 use Rattle.construction_reader.specs.Said.{Object, Recipe, Claim, Sentence, Row, Account, sentences_of}
-use Rattle.construction_reader.specs.Grammar.{IsAccount, EndsOnce}
 use Rattle.cayley_terms.specs.declared.instr.Instr.{Instr}
 use Rattle.cayley_terms.specs.declared.instr.Instr.TheVariants as instr
 use Rattle.cayley_terms.specs.declared.program.Program.{Program}
@@ -68,8 +66,10 @@ run_claim line (Claim.Collinear args) s built all =
     run_from_left instr.Join line _ _ (λ a b. tt) (run_objects line args s all)
 run_claim line (Claim.Concurrent args) s built all =
     run_from_left instr.Meet line _ _ (λ a b. tt) (run_objects line args s all)
-run_claim line (Claim.Coplanar args) s built all = absurd cc
-run_claim line (Claim.Meeting args) s built all = absurd cc
+run_claim line (Claim.Coplanar args) s built all =
+    run_from_left instr.Join line _ _ (λ a b. tt) (run_objects line args s all)
+run_claim line (Claim.Meeting args) s built all =
+    run_from_left instr.Join line _ _ (λ a b. tt) (run_objects line args s all)
 run_claim line (Claim.Incident args) s built all =
     run_from_left instr.Join line _ _ (λ a b. tt) (run_objects line args s all)
 run_claim line (Claim.Conic args) s built all = absurd cc
@@ -88,29 +88,18 @@ run_row params r s built all = go r.sentence built
         let both = run_recipe params r.line recipe s built all in one_more _ _ both.0 both.1
     go (Sentence.Conclude claim) built = run_claim r.line claim s built all
 
-run_rows : (rank : ℕ) (params : List (List ℕ)) (rows : List Row) (s : Lowered) → IsTrue (list_all (is_built rank) rows)
+run_rows : (params : List (List ℕ)) (rows : List Row) (s : Lowered) → IsTrue (list_all is_built rows)
     → AreRun s → AreRun (fold (row_lowered params) s rows)
-run_rows rank params [] s built all = all
-run_rows rank params (r ∷ rows) s built all =
-    let both = both_true (is_built rank r) (list_all (is_built rank) rows) built in
-    run_rows rank params rows (row_lowered params s r) both.1
-    (run_row params r s (both_true (rank == 3) (is_built_sentence r.sentence) both.0).1 all)
+run_rows params [] s built all = all
+run_rows params (r ∷ rows) s built all =
+    let both = both_true (is_built r) (list_all is_built rows) built in
+    run_rows params rows (row_lowered params s r) both.1 (run_row params r s both.0 all)
 
 -- all instructions of a built construction are run
 built_is_run : (c : Account) → IsBuilt c → AllByRecursion IsRun (lowered c).instrs
 unfolding lowered
-built_is_run c built = run_rows c.rank _ c.rows _ built tt
+built_is_run c built = run_rows _ c.rows _ built tt
 
 -- and so are those of its program
 pub are_run : (c : Account) (p : Program) → IsBuilt c → IsStraight c p → AllByRecursion IsRun p.instrs
 are_run c p built straight = subst (AllByRecursion IsRun) (sym straight.instrs) (built_is_run c built)
-
--- a built construction has rank 3
-pub built_rank : (c : Account) → IsAccount c.rank (sentences_of c.rows) → IsBuilt c → c.rank ≡ 3
-built_rank c given built = go c.rows given.ends built
-  where
-    go : (rows : List Row) → EndsOnce (sentences_of rows) → IsTrue (list_all (is_built c.rank) rows) → c.rank ≡ 3
-    go [] ends built = absurd ends
-    go (r ∷ rows) ends built =
-        let both = both_true (is_built c.rank r) (list_all (is_built c.rank) rows) built in
-        eqb-true c.rank 3 (both_true (c.rank == 3) (is_built_sentence r.sentence) both.0).0

@@ -16,20 +16,35 @@ use Rattle.prover_cli.specs.declared.reply.Proof.{Proof}
 use Rattle.prover_cli.specs.Answer.{Answer, refused, proof, IsTextAnswer, IsAccountAnswer, IsProveAnswer}
 use Rattle.prover_cli.specs.Outcome.{IsInput, IsVerdict, Decides}
 
+-- the answer that a proof stands for
+abbrev pub proof_of : {d : ℕ} → Proof d → Answer
+proof_of p = proof (names_of (account p.checked)) (map worked_of p.objects) (option_map stop_of p.stop)
+
 -- the answer that a reply stands for
 abbrev pub answer_of : Reply → Answer
 answer_of (reply.Refused reason) = refused reason.items
-answer_of (reply.Proof p) =
-    proof (names_of (account p.checked)) (map worked_of p.objects) (option_map stop_of p.stop)
+answer_of (reply.Plane p) = proof_of p
+answer_of (reply.Space p) = proof_of p
 
 -- all points and parameters of the objects have names
 abbrev pub AreNamed : Names → List Worked → Type 0
 AreNamed names objects = AllByRecursion (λ o. AllByRecursion (IsSectionNamed names) o.sections) objects
 
--- what a reply holds can be written
+-- what a proof holds can be written
+abbrev pub IsNamedProof : {d : ℕ} → Proof d → Type 0
+IsNamedProof p = AreNamed (names_of (account p.checked)) (map worked_of p.objects)
+
+-- and what a reply holds
 abbrev pub IsWritable : Reply → Type 0
 IsWritable (reply.Refused reason) = Unit {0}
-IsWritable (reply.Proof p) = AreNamed (names_of (account p.checked)) (map worked_of p.objects)
+IsWritable (reply.Plane p) = IsNamedProof p
+IsWritable (reply.Space p) = IsNamedProof p
+
+-- a proof on a construction, with so many turns, which decides each text that gives it
+pub record IsProofOf {d : ℕ} (budget : ℕ) (c : Account) (p : Proof d) : Type 0 where
+  pub is_answer : IsAccountAnswer budget c (proof_of p)
+  pub writable : IsNamedProof p
+  pub decides : IsVerdict (proof_of p).status → (text : List ℕ) → TextOf text c → Decides text (proof_of p)
 
 -- a reply to a construction, with so many turns, which decides each text that gives it
 pub record IsAccountReply (budget : ℕ) (c : Account) (r : Reply) : Type 0 where

@@ -8,7 +8,7 @@ ghost use Rattle.step_types.specs.Checks.{IsGood};
 ghost use Rattle.cayley_terms.specs.Built.{IsBuilt};
 ghost use Rattle.prover_cli.specs.Answer.{kind_word, step_word, refused, refused_at};
 ghost use Rattle.prover_cli.specs.Outcome.{IsVerdict};
-ghost use Rattle.prover_cli.specs.Reply.{answer_of, IsReplyTo, IsTextReply, IsAccountReply};
+ghost use Rattle.prover_cli.specs.Reply.{answer_of, IsReplyTo, IsTextReply, IsAccountReply, IsProofOf};
 
 use crate::status::Status;
 use bracket_poly::{Items, ObjectLog};
@@ -21,9 +21,9 @@ use step_types::{CheckError, Checked, StepKind, check};
 
 /// A construction and the run on it.
 #[derive(Drop)]
-pub struct Proof {
+pub struct Proof<const D: usize> {
     pub checked: Checked,
-    pub objects: Items<ObjectLog<3>>,
+    pub objects: Items<ObjectLog<D>>,
     pub stop: Option<StopKind>,
 }
 
@@ -32,8 +32,10 @@ pub struct Proof {
 pub enum Reply {
     /// The text is refused for this reason.
     Refused(Vec<u8>),
-    /// The text has a run.
-    Proof(Proof),
+    /// The text of rank 3 has this run.
+    Plane(Proof<3>),
+    /// The text of rank 4 has this run.
+    Space(Proof<4>),
 }
 
 /// Reads the source to its end, and answers to what it had left; or says why there is no answer.
@@ -94,21 +96,25 @@ fn reply_to_checked(alloc: Global, budget: u64, checked: Checked) -> Result<Repl
 {
     match first_unbuilt(&checked) {
         Some(line) => refuse_at(alloc, line, "later"),
-        None => Ok(Reply::Proof(prove(alloc, budget, checked)?)),
+        None if checked.construction().rank == 3 => {
+            Ok(Reply::Plane(prove(alloc, budget, checked)?))
+        }
+        None => Ok(Reply::Space(prove(alloc, budget, checked)?)),
     }
 }
 
 /// The run on a construction whose forms are built.
-fn prove(alloc: Global, budget: u64, checked: Checked) -> Result<Proof, NoMemory>
-    requires { IsBuilt (account checked) }
-    ensures { IfOk result (λ proof. IsAccountReply budget (account checked) (Reply.Proof proof)) }
+fn prove<const D: usize>(alloc: Global, budget: u64, checked: Checked) -> Result<Proof<D>, NoMemory>
+    requires built { IsBuilt (account checked) }
+    requires rank { (account checked).rank ≡ D }
+    ensures { IfOk result (IsProofOf budget (account checked)) }
 {
     let program = lower(alloc, &checked)?;
     let options = Options {
         budget,
         contract: false,
     };
-    match run_sections::<3>(alloc, &program, options) {
+    match run_sections::<D>(alloc, &program, options) {
         Ok(objects) => Ok(Proof {
             checked,
             objects: Items::of(objects),

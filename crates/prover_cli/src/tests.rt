@@ -120,8 +120,8 @@ fn refuses_other_texts(rt: HostRuntime) -> Result<(), Fail> {
         ),
         // What the step rules take and the program does not yet.
         (
-            b"construction 1\nrank 4\nfree A B C D\nconclude coplanar A B C D\n",
-            "3 later",
+            b"construction 1\nrank 4\nfree A B\npoint P = on A B with s t\nconclude meeting (join A B) (join A P)\n",
+            "4 later",
         ),
         (
             b"construction 1\nrank 3\nfree A B C\npoint P = on A B with s t\nconclude collinear A B P\n",
@@ -201,7 +201,7 @@ const ONE_TURN: &[u8] =
     b"construction 1\nrank 3\nfree A B C D E F\nconclude concurrent (join C F) (join A B) (join D E)\n";
 
 /// Texts with the words after `prove`, the status, and how the output ends.
-const PROOFS: [(&[u8], &[&str], Status, &[u8]); 7] = [
+const PROOFS: [(&[u8], &[&str], Status, &[u8]); 9] = [
     (
         ONE_TURN,
         &["--budget", "1"],
@@ -238,6 +238,19 @@ const PROOFS: [(&[u8], &[&str], Status, &[u8]); 7] = [
         &[],
         Status::Proved,
         b"\nstart\n+1 [A B C] [A C D] [B D E]\n-1 [A B C] [A D E] [B C D]\n-1 [A B D] [A C D] [B C E]\n+1 [A B D] [A C E] [B C D]\nuse -1 [A B D] ; A C ; B C D E ;\nuse +1 [A B C] ; A ; B C D E ; D\nend\nzero\nproved\n",
+    ),
+    (
+        b"construction 1\nrank 4\nfree A B C D\nconclude coplanar B A C D\n",
+        &[],
+        Status::Refuted,
+        b"\nobject 1 step 2\nscalar A B\nstart\n-1\nend\n-1\nobject 2 step 3\nscalar A B C\nstart\n-1\nend\n-1\nobject 3 step 4\nscalar\nstart\n-1 [A B C D]\nend\n-1 [A B C D]\nrefuted\n",
+    ),
+    // Four planes through one point.
+    (
+        b"construction 1\nrank 4\nfree O A B C D E F G H\nconclude concurrent (join (join O A) B) (join (join O C) D) (join (join O E) F) (join (join O G) H)\n",
+        &[],
+        Status::Proved,
+        b"\nobject 10 step 1\nscalar O\nstart\n+1 [O A C D] [O B E F]\n-1 [O A E F] [O B C D]\nuse +1 ; O A ; O B C E F ; D\nuse -1 ; O A C ; O B D E F ;\nuse +1 ; O A B ; O C D E F ;\nend\n-1 [O A B C] [O D E F]\n+1 [O A B D] [O C E F]\nobject 11 step 0\nscalar\nstart\nzero\nend\nzero\nproved\n",
     ),
     // A line that meets itself.
     (

@@ -10,11 +10,10 @@ ghost use Rattle.cayley_run.specs.Results.{stop_of};
 ghost use Rattle.proof_text.specs.Lines.{spaced, text_of};
 ghost use Rattle.proof_text.specs.Proofs.{head_lines, object_lines, IsSectionNamed};
 ghost use Rattle.proof_text.specs.Writes.{Writes};
-ghost use Rattle.prover_cli.specs.Answer as answers;
-ghost use Rattle.prover_cli.specs.Answer.{last_line, last_status, last_terms};
+ghost use Rattle.prover_cli.specs.Answer.{last_line, last_terms};
 ghost use Rattle.prover_cli.specs.Lines.{AddsLines};
 ghost use Rattle.prover_cli.specs.Outcome.{Written};
-ghost use Rattle.prover_cli.specs.Reply.{answer_of, AreNamed, IsWritable};
+ghost use Rattle.prover_cli.specs.Reply.{answer_of, proof_of, IsNamedProof, IsWritable};
 
 use crate::lines::{add_line, put_text};
 use crate::reply::{Proof, Reply};
@@ -34,7 +33,8 @@ pub fn write_reply<K: Sink>(alloc: Global, reply: &Reply, sink: &mut K) -> Statu
 {
     let (status, written) = match reply {
         Reply::Refused(reason) => (Status::TextRefused, write_refusal(alloc, reason, sink)),
-        Reply::Proof(proof) => (status(proof), write_proof(alloc, proof, sink)),
+        Reply::Plane(proof) => (status(proof), write_proof(alloc, proof, sink)),
+        Reply::Space(proof) => (status(proof), write_proof(alloc, proof, sink)),
     };
     match written {
         Ok(()) => status,
@@ -60,9 +60,13 @@ fn refusal(alloc: Global, reason: &[u8]) -> Result<Vec<u8>, NoMemory>
 }
 
 /// The head of a proof, its objects, and the last line.
-fn write_proof<K: Sink>(alloc: Global, proof: &Proof, sink: &mut K) -> Result<(), WriteError>
-    requires { AreNamed (names_of (account proof.now.checked)) (map worked_of proof.now.objects) }
-    ensures { Writes (K.held sink.old) (K.held sink.new) (K.faults sink.old) (K.faults sink.new) result (answers.proof (names_of (account proof.now.checked)) (map worked_of proof.now.objects) (option_map stop_of proof.now.stop)).lines }
+fn write_proof<const D: usize, K: Sink>(
+    alloc: Global,
+    proof: &Proof<D>,
+    sink: &mut K,
+) -> Result<(), WriteError>
+    requires { IsNamedProof proof.now }
+    ensures { Writes (K.held sink.old) (K.held sink.new) (K.faults sink.old) (K.faults sink.new) result (proof_of proof.now).lines }
 {
     write_head(alloc, proof.checked.names(), sink)?;
     for object in proof.objects.items() {
@@ -106,10 +110,10 @@ fn add_names(text: &mut Vec<u8>, word: &[u8], names: &[Name]) -> Result<(), NoMe
 }
 
 /// An object's number and step, and its sections.
-fn write_object<K: Sink>(
+fn write_object<const D: usize, K: Sink>(
     alloc: Global,
     names: &Names,
-    object: &ObjectLog<3>,
+    object: &ObjectLog<D>,
     sink: &mut K,
 ) -> Result<(), WriteError>
     requires { AllByRecursion (IsSectionNamed names.now) (worked_of object.now).sections }
@@ -135,7 +139,7 @@ fn object_line(alloc: Global, number: u32, step: u8) -> Result<Vec<u8>, NoMemory
 }
 
 /// The last line of a proof.
-fn last_line(proof: &Proof) -> &'static str
+fn last_line<const D: usize>(proof: &Proof<D>) -> &'static str
     ensures { result.now ≡ text_of (last_line (map worked_of proof.now.objects) (option_map stop_of proof.now.stop) ∷ []) }
 {
     match proof.stop {
@@ -148,8 +152,8 @@ fn last_line(proof: &Proof) -> &'static str
 }
 
 /// The status that goes with a proof.
-fn status(proof: &Proof) -> Status
-    ensures { result ≡ last_status (map worked_of proof.now.objects) (option_map stop_of proof.now.stop) }
+fn status<const D: usize>(proof: &Proof<D>) -> Status
+    ensures { result ≡ (proof_of proof.now).status }
 {
     match proof.stop {
         Some(_) => Status::Stopped,
@@ -159,7 +163,7 @@ fn status(proof: &Proof) -> Status
 }
 
 /// Whether the last section of the last object ends without a term.
-fn ends_in_zero(objects: &[ObjectLog<3>]) -> bool
+fn ends_in_zero<const D: usize>(objects: &[ObjectLog<D>]) -> bool
     ensures { result ≡ (length (last_terms (map worked_of objects.now)) == 0) }
 {
     let Some(object) = objects.last() else {

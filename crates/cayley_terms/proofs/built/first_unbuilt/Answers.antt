@@ -7,12 +7,12 @@ pub returns-then-not-is_built-clause-none : goal.returns-then-not-is_built-claus
 returns-then-not-is_built-clause-none c =
     none_from (account c.args.c.now) (Some c.statement-item.result.line)
     (c.loop-statement.invariant
-    ∙ not_built c.construction-construction.result.now.rank _ c.loop-statement.statement-index c.statement-item.result
+    ∙ not_built _ c.loop-statement.statement-index c.statement-item.result
     c.loop-statement-test.true c.statement-item.is (sym (c.if-not-is_built.ensures {u = tt})))
 
 pub returns-clause-none : goal.returns-clause-none
 returns-clause-none c =
     none_from (account c.args.c.now) None
     (c.loop-statement.invariant
-    ∙ none_at_end c.construction-construction.result.now.rank _ c.loop-statement.statement-index
+    ∙ none_at_end _ c.loop-statement.statement-index
     c.loop-statement-test.false)

@@ -7,4 +7,4 @@ use Rattle.cayley_terms.proofs.built.first_unbuilt.Given as goal
 
 abbrev pub invariant-loop-statement : goal.invariant-loop-statement
 invariant-loop-statement l =
-    unbuilt_line (account l.c) ≡ line_in l.construction.rank (map row (drop l.statement-index l.statement-items))
+    unbuilt_line (account l.c) ≡ line_in (map row (drop l.statement-index l.statement-items))

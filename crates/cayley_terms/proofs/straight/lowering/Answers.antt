@@ -17,7 +17,7 @@ loop-statement-init c =
 
 pub statement-requires-clause-built : goal.statement-requires-clause-built
 statement-requires-clause-built c =
-    built_at c.args.c.now.rank c.args.c.now.statements c.loop-statement.statement-index c.statement-item.result
+    built_at c.args.c.now.statements c.loop-statement.statement-index c.statement-item.result
     (rw c.items-statement-items.ensures at c.loop-statement-test.true)
     (rw c.items-statement-items.ensures at c.statement-item.is) c.requires.built
 
@@ -26,7 +26,7 @@ statement-requires-clause-room c =
     let a = account c.args.c.now in
     rows_room (params_in a) c.items-statement-items.result.now c.loop-statement.statement-index c.statement-item.result
     c.loop-statement.lowering _ c.loop-statement-test.true c.statement-item.is
-    (built_at c.args.c.now.rank c.args.c.now.statements c.loop-statement.statement-index c.statement-item.result
+    (built_at c.args.c.now.statements c.loop-statement.statement-index c.statement-item.result
     (rw c.items-statement-items.ensures at c.loop-statement-test.true)
     (rw c.items-statement-items.ensures at c.statement-item.is) c.requires.built)
     c.loop-statement.invariant (fits_whole Variables a c.requires.good c.requires.built c.args.c.now.given.good)
@@ -37,7 +37,7 @@ loop-statement-preserved c =
     sym
     (rows_next (params_in a) c.items-statement-items.result.now c.loop-statement.statement-index c.statement-item.result
     c.loop-statement.lowering c.statement.new.self c.loop-statement-test.true c.statement-item.is
-    (built_at c.args.c.now.rank c.args.c.now.statements c.loop-statement.statement-index c.statement-item.result
+    (built_at c.args.c.now.statements c.loop-statement.statement-index c.statement-item.result
     (rw c.items-statement-items.ensures at c.loop-statement-test.true)
     (rw c.items-statement-items.ensures at c.statement-item.is) c.requires.built)
     (c.in_ok-statement.ensures {u = tt}))

@@ -9,19 +9,19 @@ use Rattle.cayley_run.specs.Results.{stop_of, IsStopOf}
 use Rattle.cayley_run.specs.Runs.{run_of}
 use Rattle.prover_cli.specs.Reply.{AreNamed}
 use Rattle.prover_cli.proofs.NamedLogs.{log_named}
-use Rattle.prover_cli.proofs.Runnable.{are_run, built_rank}
-use Rattle.prover_cli.proofs.Replies.{proof_replies, same_proof}
+use Rattle.prover_cli.proofs.Runnable.{are_run}
+use Rattle.prover_cli.proofs.Replies.{is_proof, same_proof}
 use Rattle.prover_cli.proofs.reply.prove.Goals as goal
 
 pub run_sections-requires : goal.run_sections-requires
-run_sections-requires c = (
+run_sections-requires g c = (
   lit< tt,
   (
     lit< tt,
     (
-      c.in_ok-program.ensures.names.0 ∙ built_rank (account c.args.checked) c.args.checked.given.good c.requires,
+      c.in_ok-program.ensures.names.0 ∙ c.requires.rank,
       (
-        are_run (account c.args.checked) c.in_ok-program.program c.requires c.in_ok-program.ensures.shape,
+        are_run (account c.args.checked) c.in_ok-program.program c.requires.built c.in_ok-program.ensures.shape,
         refl,
       ),
     ),
@@ -29,11 +29,11 @@ run_sections-requires c = (
 )
 
 pub returns-in-Ok : goal.returns-in-Ok
-returns-in-Ok c =
+returns-in-Ok g c =
     let now = account c.args.checked in
     let run = c.in-Ok.ensures.run in
     let good : IsGood now = subst (λ (k : Construction). IsGood (account k)) c.checked.view_is c.checked.invariant.good in
-    proof_replies c.args.budget now c.in_ok-program.program _ good c.requires c.in_ok-program.ensures.shape
+    is_proof c.args.budget now c.in_ok-program.program _ good c.requires.built c.in_ok-program.ensures.shape
     c.in_ok-program.ensures.names c.in_ok-program.ensures.conclusion c.run_sections.ensures.means
     (same_proof (names_of now) (map worked_of c.of.result) (run_of c.args.budget c.in_ok-program.program).objects None
     (run_of c.args.budget c.in_ok-program.program).stop (ap (map worked_of) c.of.ensures ∙ run.0) (sym run.1))
@@ -42,13 +42,13 @@ returns-in-Ok c =
     c.run_sections.ensures.within c.in_ok-program.ensures.names.1))
 
 pub returns-in-Err-Stop : goal.returns-in-Err-Stop
-returns-in-Err-Stop c =
+returns-in-Err-Stop g c =
     let now = account c.args.checked in
     let log = run_of c.args.budget c.in_ok-program.program in
     let run : IsStopOf (error.Stop c.in-Err-Stop.done c.in-Err-Stop.kind) log =
-    subst (λ (e : RunError 3). IsStopOf e log) c.in-Err-Stop.field-0-is c.in-Err-Stop.ensures.run in
+    subst (λ (e : RunError g.row.D). IsStopOf e log) c.in-Err-Stop.field-0-is c.in-Err-Stop.ensures.run in
     let good : IsGood now = subst (λ (k : Construction). IsGood (account k)) c.checked.view_is c.checked.invariant.good in
-    proof_replies c.args.budget now c.in_ok-program.program _ good c.requires c.in_ok-program.ensures.shape
+    is_proof c.args.budget now c.in_ok-program.program _ good c.requires.built c.in_ok-program.ensures.shape
     c.in_ok-program.ensures.names c.in_ok-program.ensures.conclusion c.run_sections.ensures.means
     (same_proof (names_of now) (map worked_of c.in-Err-Stop.done) log.objects (Some (stop_of c.in-Err-Stop.kind)) log.stop
     run.0 (sym run.1))

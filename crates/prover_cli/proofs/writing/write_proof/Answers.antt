@@ -1,4 +1,4 @@
-use Rattle.std.proofs.Common.{◌∷◌, [], List, ℕ, map, flat_map, ap, refl, sym, subst, ◌∙◌}
+use Rattle.std.proofs.Common.{rules, ◌∷◌, [], List, ℕ, map, flat_map, ap, refl, sym, subst, ◌∙◌}
 use Rattle.std.specs.List.{AllByRecursion}
 use Rattle.std.specs.Option.{option_map}
 use Rattle.std.proofs.Math.ListN.{drop_of_length-le}
@@ -26,10 +26,12 @@ write_object-requires g c =
     let names : Names = names_of (account c.args.proof.now.checked) in
     let next = ap (λ os. map worked_of os)
     (drop_at c.items-object-items.result.now c.loop-object.object-index c.object-item.result c.loop-object-test.true c.object-item.is) in
-    let all = subst (λ os. AreNamed names (map worked_of os)) (sym c.items-object-items.ensures) c.requires in
-    subst (λ (n : Names). AllByRecursion (IsSectionNamed n) (map rewritten_of c.object-item.result.sections))
-    (sym c.names-in-loop-object.ensures)
-    (next_has (λ o. AllByRecursion (IsSectionNamed names) o.sections) _ _ _ _ _ c.loop-object.invariant.split next all)
+    let all = subst (λ os. AreNamed names (map worked_of os)) (sym c.items-object-items.ensures) c.requires in (
+      search rules,
+      subst (λ (n : Names). AllByRecursion (IsSectionNamed n) (map rewritten_of c.object-item.result.sections))
+          (sym c.names-in-loop-object.ensures)
+          (next_has (λ o. AllByRecursion (IsSectionNamed names) o.sections) _ _ _ _ _ c.loop-object.invariant.split next all),
+    )
 
 pub loop-object-preserved : goal.loop-object-preserved
 loop-object-preserved g c =
