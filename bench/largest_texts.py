@@ -76,4 +76,5 @@ def main():
         print(f"{name:22} {len(text):8} bytes  status {status}  {seconds:6.3f} s  {memory:6.1f} MB  {turns:6} turns")
 
 
-main()
+if __name__ == "__main__":
+    main()

@@ -214,4 +214,5 @@ def main():
             print(f"{word:8}  {made:18}  {millis:8.1f} ms  processor {busy:8.1f} ms  {memory:6.1f} MB", flush=True)
 
 
-main()
+if __name__ == "__main__":
+    main()

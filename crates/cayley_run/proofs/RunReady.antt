@@ -2,7 +2,7 @@
 use Rattle.std.proofs.Common.{◌≡◌, ℕ, zero, suc, ◌+◌, ◌-◌, ◌^◌, ◌<◌, ◌≤◌, List, [], ◌∷◌, ◌++◌, map, length, get_or, refl, sym}
 use Rattle.std.proofs.Common.{ap, ap₂, subst, ◌∙◌, arith, length-append}
 use Rattle.std.proofs.lemmas.List.{length-map}
-use Rattle.std.specs.Prelude.{Option, Some, None}
+use Rattle.std.specs.Prelude.{None}
 use Rattle.std.specs.List.{AllByRecursion}
 use Rattle.coordinate_model.specs.Sequences.{IsRank}
 use Rattle.coordinate_model.specs.BracketPolynomial.{BracketPolynomial}
@@ -22,7 +22,7 @@ use Rattle.cayley_terms.specs.Programs.{NamesEarlier, EndsInOne, IsInner, IsLast
 use Rattle.cayley_run.specs.Runs.{Log, at_start, with_instr, IsRun}
 use Rattle.cayley_run.specs.RunLaws.{AllEndWell}
 use Rattle.cayley_run.specs.Bounds.{HasNumbers, IsKeyWithin, IsPolynomialWithin, object_measures}
-use Rattle.cayley_run.specs.Ready.{AreSmall, IsOperand, step_at, ArePair, IsJoin, IsMeet, Makes, IsReady}
+use Rattle.cayley_run.specs.Ready.{AreSmall, IsOperand, step_at, Makes, IsReady}
 use Rattle.cayley_run.proofs.InstrLaws.{Made, measures_of, values_of, IsMade, Adds, made_of, inner_instr}
 use Rattle.cayley_run.proofs.KeyBounds.{IsEntryWithin, IsProductWithin, joins_within, meets_within}
 use Rattle.cayley_run.proofs.Operands.{IsSmall}

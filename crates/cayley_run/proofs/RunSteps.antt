@@ -5,7 +5,6 @@ use Rattle.std.specs.Prelude.{Some, None}
 use Rattle.std.specs.List.{AllByRecursion}
 use Rattle.std.proofs.Math.ListN.{drop_of_length-le}
 use Rattle.std.proofs.lemmas.List.{drop_more, length-map}
-use Rattle.coordinate_model.specs.Sequences.{IsRank}
 use Rattle.step_types.specs.declared.measure.Measure.{Measure}
 use Rattle.straightening.specs.Runs.{Stop}
 use Rattle.cayley_terms.specs.declared.instr.Instr.{Instr}

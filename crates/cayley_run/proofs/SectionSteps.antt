@@ -1,21 +1,19 @@
 -- One more start of the code is rewritten, and the last one.
-use Rattle.std.proofs.Common.{◌≡◌, ℕ, ◌+◌, ◌-◌, ◌<◌, ◌≤◌, Bool, true, false, List, [], ◌∷◌, ◌++◌, map, drop, length, get_or}
-use Rattle.std.proofs.Common.{refl, sym, ap, ap₂, subst, ◌∙◌, append-nil, arith}
+use Rattle.std.proofs.Common.{◌≡◌, ℕ, ◌+◌, ◌-◌, ◌<◌, ◌≤◌, true, false, List, [], ◌∷◌, ◌++◌, map, drop, length, get_or}
+use Rattle.std.proofs.Common.{refl, sym, ap, subst, ◌∙◌, append-nil}
 use Rattle.std.specs.Prelude.{Option, Some, None, is_some}
 use Rattle.std.specs.Option.{option_map}
 use Rattle.std.proofs.lemmas.List.{drop_more}
 use Rattle.std.proofs.Math.ListN.{drop_of_length-le}
 use Rattle.coordinate_model.proofs.Hom.{map-append}
-use Rattle.coordinate_model.specs.BracketPolynomial.{BracketPolynomial}
-use Rattle.coordinate_model.specs.Syzygy.{Use}
 use Rattle.bracket_terms.specs.declared.extensor.Extensor.{Extensor}
 use Rattle.bracket_terms.specs.Joins.{points_of}
 use Rattle.bracket_terms.specs.LogUses.{use_of}
 use Rattle.bracket_poly.specs.Kept.{TrackedOf}
 use Rattle.bracket_poly.specs.Sections.{Rewritten, rewritten_of}
 use Rattle.bracket_poly.specs.declared.section.Section.{Section}
-use Rattle.straightening.specs.Runs.{Run, Stop, run}
-use Rattle.cayley_run.specs.Sections.{Start, rewritten, Sections, run_starts, end_of}
+use Rattle.straightening.specs.Runs.{Run, run}
+use Rattle.cayley_run.specs.Sections.{rewritten, Sections, run_starts, end_of}
 use Rattle.cayley_run.specs.Results.{stop_of}
 use Rattle.cayley_run.specs.Seen.{IsRewriting, start_of, starts_of}
 use Rattle.cayley_run.specs.declared.answer.StopKind.{StopKind}

@@ -1,5 +1,5 @@
 -- What the code keeps of a run, as the definitions say it.
-use Rattle.std.specs.Prelude.{◌≡◌, ℕ, List, map, length, Option}
+use Rattle.std.specs.Prelude.{◌≡◌, ℕ, List, map, length}
 use Rattle.std.specs.Option.{option_map}
 use Rattle.bracket_terms.specs.declared.extensor.Extensor.{Extensor}
 use Rattle.bracket_terms.specs.Joins.{points_of}

@@ -1,6 +1,6 @@
 -- What the functions that lower statements need room for, and that they do what is lowered.
 use Rattle.std.proofs.Common.{◌≡◌, ℕ, zero, suc, ◌+◌, ◌<◌, ◌≤◌, Bool, true, false, ◌&&◌, List, [], ◌∷◌, length, map, drop, get_or, fold, None, Some, sym, ap, ◌∙◌, subst, refl, arith, add-one}
-use Rattle.std.specs.Prelude.{IsTrue, ◌==◌}
+use Rattle.std.specs.Prelude.{IsTrue}
 use Rattle.std.specs.List.{list_all}
 use Rattle.construction_reader.specs.declared.types.Statement.{Statement}
 use Rattle.construction_reader.specs.Said.{Object, Recipe, Sentence, Row, row}

@@ -28,7 +28,7 @@ use Rattle.prover_cli.specs.declared.reply.Proof.{Proof}
 use Rattle.prover_cli.specs.declared.status.Status.TheVariants.{Stopped}
 use Rattle.prover_cli.specs.Answer.{Answer, refused, refused_at, kind_word, step_word, proof, log_of, proof_answer, good_answer}
 use Rattle.prover_cli.specs.Outcome.{IsInput, IsVerdict, Decides}
-use Rattle.prover_cli.specs.Reply.{answer_of, proof_of, IsWritable, IsNamedProof, IsAccountReply, IsProofOf, IsTextReply, IsReplyTo}
+use Rattle.prover_cli.specs.Reply.{answer_of, proof_of, IsNamedProof, IsAccountReply, IsProofOf, IsTextReply, IsReplyTo}
 use Rattle.prover_cli.proofs.Refusals.{no_verdict, writable}
 use Rattle.prover_cli.proofs.Verdicts.{decided}
 

@@ -1,9 +1,6 @@
-use Rattle.std.proofs.Common.{rules, ◌≡◌, ◌∙◌, sym, ap, subst, refl, ℕ, ◌≤◌, length}
-use Rattle.std.specs.Prelude.{None, is_some}
-use Rattle.std.specs.Option.{is_none}
-use Rattle.straightening.specs.Runs.{run}
+use Rattle.std.proofs.Common.{rules, sym, subst, refl, ℕ, ◌≤◌}
 use Rattle.cayley_run.proofs.StartRuns.{small_at, turns_within}
-use Rattle.cayley_run.proofs.SectionSteps.{step_goes_on, step_stops, all_rewritten, none_of}
+use Rattle.cayley_run.proofs.SectionSteps.{step_goes_on, none_of}
 use Rattle.cayley_run.proofs.sections.run_starts.Goals as goal
 
 pub rewrite-requires : goal.rewrite-requires

@@ -1,4 +1,4 @@
-use Rattle.std.proofs.Common.{rules, ◌∙◌, refl}
+use Rattle.std.proofs.Common.{◌∙◌, refl}
 use Rattle.cayley_run.proofs.Scalars.{free_formed}
 use Rattle.cayley_run.proofs.values.free_value.Goals as goal
 

@@ -1,4 +1,4 @@
-use Rattle.std.proofs.Common.{rules, ◌≡◌, ◌∙◌, ap, ap₂, replicate, []}
+use Rattle.std.proofs.Common.{◌≡◌, ◌∙◌, ap, ap₂, replicate, []}
 use Rattle.std.specs.Prelude.{pos}
 use Rattle.coordinate_model.specs.Key.{Key}
 use Rattle.bracket_poly.specs.Tracked.{Tracked, plus_term}

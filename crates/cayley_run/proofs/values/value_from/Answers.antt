@@ -1,4 +1,4 @@
-use Rattle.std.proofs.Common.{rules, ◌≡◌, ◌∙◌, ap, List, map, drop}
+use Rattle.std.proofs.Common.{◌≡◌, ◌∙◌, ap, List, map, drop}
 use Rattle.std.proofs.Math.ListN.{drop_of_length-le}
 use Rattle.bracket_poly.specs.Sections.{rewritten_of, Rewritten}
 use Rattle.bracket_poly.specs.Values.{value_of}

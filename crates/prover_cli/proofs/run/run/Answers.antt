@@ -1,4 +1,4 @@
-use Rattle.std.proofs.Common.{◌≡◌, ℕ, List, map, refl, inl, inr}
+use Rattle.std.proofs.Common.{ℕ, List, map, refl, inl, inr}
 use Rattle.std.specs.Prelude.{string_bytes}
 use Rattle.prover_cli.specs.Answer.{usage}
 use Rattle.prover_cli.specs.Reply.{answer_of, IsReplyTo}

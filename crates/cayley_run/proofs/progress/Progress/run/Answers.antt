@@ -1,9 +1,9 @@
-use Rattle.std.proofs.Common.{rules, ◌≡◌, ◌∙◌, sym, ap, subst, refl}
-use Rattle.coordinate_model.specs.Starts.{join_products, meet_products}
+use Rattle.std.proofs.Common.{rules}
+use Rattle.coordinate_model.specs.Starts.{join_products}
 use Rattle.bracket_poly.specs.declared.value.Value.{Value}
 use Rattle.cayley_run.specs.Ready.{IsJoin, IsMeet}
 use Rattle.cayley_run.specs.Seen.{log_of, steps_of}
-use Rattle.cayley_run.proofs.Operands.{said, are_joined, are_met, pair_fits, joined-same, met-same, log_of_join, log_of_meet}
+use Rattle.cayley_run.proofs.Operands.{said, are_joined, are_met, pair_fits, joined-same, log_of_join}
 use Rattle.cayley_run.proofs.Operands.{makes_join, makes_meet}
 use Rattle.cayley_run.proofs.progress.Progress.run.Goals as goal
 
