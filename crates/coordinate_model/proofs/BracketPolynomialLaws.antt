@@ -1,20 +1,21 @@
 -- The laws of brackets of free points, and values of bracket polynomials: of sums, of products and of syzygies.
-use Rattle.std.proofs.Common.{◌≡◌, ℕ, zero, suc, ◌+◌, true, false, Bool, cond, List, [], ◌∷◌, map, length, replicate}
-use Rattle.std.proofs.Common.{refl, sym, ap, ap₂}
-use Rattle.std.proofs.Common.{◌∙◌, subst, nat_cmp}
+use Rattle.std.proofs.Common.{◌≡◌, ℕ, zero, suc, ◌+◌, ◌<◌, true, false, Bool, cond, List, [], ◌∷◌, map, length, replicate}
+use Rattle.std.proofs.Common.{slice_set, add-zero, zero-add, refl, sym, ap, ap₂}
+use Rattle.std.proofs.Common.{◌∙◌, subst, arith, nat_cmp}
 use Rattle.std.proofs.lemmas.List.{length-map}
 use Rattle.coordinate_model.specs.Ring.{IsHom}
 use Rattle.coordinate_model.specs.Sequences.{repeats, IsRank}
 use Rattle.coordinate_model.specs.Brackets.{bracket, signed, syzygy}
 use Rattle.coordinate_model.specs.Words.{ordered}
 use Rattle.coordinate_model.specs.Sums.{Terms, single, sum_of, sum_value}
-use Rattle.coordinate_model.specs.Polynomial.{Polynomials, monomial, free_point, br}
+use Rattle.coordinate_model.specs.Polynomial.{Polynomials, parameter, monomial, free_point, br}
 use Rattle.coordinate_model.specs.Key.{Key, key_cmp, key_value, key_times, rows_key, powers}
 use Rattle.coordinate_model.specs.BracketPolynomial.{KeySums, BracketPolynomial, value}
 use Rattle.coordinate_model.specs.Syzygy.{sorted_bracket, syz, use_term, multiple, AreSizes}
 use Rattle.coordinate_model.specs.SyzygyLaws.{SortedBracket, ValueOfSorted, SyzygyOfFreePoints, ValueOfSyzygy}
 use Rattle.coordinate_model.specs.SyzygyLaws.{ValueOfMultiple}
 use Rattle.coordinate_model.specs.NormalLaws.{ValueOfSum, ValueOfProduct}
+use Rattle.coordinate_model.specs.StartLaws.{ValueOfParameter}
 use Rattle.coordinate_model.proofs.RingLemmas as L
 use Rattle.coordinate_model.proofs.Hom.{syzygy-hom, signed-hom}
 use Rattle.coordinate_model.proofs.BracketLaws.{syzygy-law}
@@ -83,6 +84,24 @@ unfolding key_value
 value_of_one n =
     value_of_single (record { exponents = replicate n 0; rows = [] })
     ∙ ap (λ vs. Polynomials.◌⊗◌ (monomial vs) Polynomials.𝟙) (powers-none 0 n) ∙ unit_value
+
+-- the value of a parameter
+powers-one : (i n j : ℕ) → j < n → powers i (slice_set (replicate n 0) j 1) ≡ parameter (i + j) ∷ []
+powers-one i zero j h = absurd (omega arith)
+powers-one i (suc n) zero h =
+    ap₂ (λ k vs. parameter k ∷ vs) (sym (add-zero i)) (powers-none (suc i) n)
+powers-one i (suc n) (suc j) h =
+    powers-one (suc i) n j (omega arith) ∙ ap (λ k. parameter k ∷ []) later
+  where
+    later : suc i + j ≡ i + suc j
+    later = omega arith
+
+pub value_of_parameter : ValueOfParameter
+unfolding key_value
+value_of_parameter n i h =
+    value_of_single (record { exponents = slice_set (replicate n 0) i 1; rows = [] })
+    ∙ polynomial_ring.mul_one (monomial (powers 0 (slice_set (replicate n 0) i 1)))
+    ∙ ap monomial (powers-one 0 n i h ∙ ap (λ k. parameter k ∷ []) (zero-add i))
 
 -- the value of a list of terms, in any order and number
 pub value_of_terms : (ts : Terms Key) → value (sum_of key_cmp ts) ≡ sum_value Polynomials key_value ts

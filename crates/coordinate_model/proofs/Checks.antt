@@ -17,10 +17,10 @@ use Rattle.coordinate_model.specs.Words.{word_of}
 use Rattle.coordinate_model.specs.Sums.{Terms, coefficient, sum_of, single, plus, minus, times}
 use Rattle.coordinate_model.specs.Polynomial.{coordinate, parameter, monomial_of, monomial_cmp, br}
 use Rattle.coordinate_model.specs.Key.{Key, row_cmp, key_cmp, rows_key, column, IsRow, IsStandardKey}
-use Rattle.coordinate_model.specs.BracketPolynomial.{IsNormal, value}
+use Rattle.coordinate_model.specs.BracketPolynomial.{IsNormal, parameter_of, value}
 use Rattle.coordinate_model.specs.Syzygy.{sorted_bracket, syz, Use, IsUse, multiple}
 use Rattle.coordinate_model.specs.Value.{Value}
-use Rattle.coordinate_model.specs.Starts.{Product, join_products, meet_products, starts}
+use Rattle.coordinate_model.specs.Starts.{Product, join_products, meet_products, on_products, starts}
 use Rattle.coordinate_model.proofs.Increasing.{increasing_next}
 use Rattle.coordinate_model.proofs.KeySets.{all_sum_of}
 use Rattle.coordinate_model.proofs.KeyTests.{Tableaux, terms_of, tableaux, same_at, same_value}
@@ -271,6 +271,10 @@ start_terms ps = map (λ e. (e.0, e.1.terms)) (starts ps)
 abbrev one_row : List ℕ → Key
 one_row r = rows_key (r ∷ [])
 
+-- the key of these exponents
+abbrev powers_key : List ℕ → Key
+powers_key exponents = record { exponents = exponents; rows = [] }
+
 -- the meet of 12 and 34 in rank 3: -[234] * 1 + [134] * 2
 meet_starts : start_terms (meet_products 3 (value_of ((1 ∷ 2 ∷ []) ∷ [])) (value_of ((3 ∷ 4 ∷ []) ∷ [])))
     ≡ (1 ∷ [], (one_row (2 ∷ 3 ∷ 4 ∷ []), negsuc 0) ∷ []) ∷ (2 ∷ [], (one_row (1 ∷ 3 ∷ 4 ∷ []), pos 1) ∷ []) ∷ []
@@ -289,6 +293,14 @@ full_join_starts : start_terms (join_products 3 (value_of ((1 ∷ 2 ∷ []) ∷ 
     ≡ ([], (one_row (1 ∷ 2 ∷ 3 ∷ []), pos 1) ∷ []) ∷ []
 unfolding sum_of single
 full_join_starts = refl
+
+-- the combination of 1 with the first of two parameters and of 2 + 1 with the second
+combined_starts : start_terms
+    (on_products (parameter_of 2 0) (parameter_of 2 1) (value_of ((1 ∷ []) ∷ [])) (value_of ((2 ∷ []) ∷ (1 ∷ []) ∷ [])))
+    ≡ (1 ∷ [], (powers_key (0 ∷ 1 ∷ []), pos 1) ∷ (powers_key (1 ∷ 0 ∷ []), pos 1) ∷ [])
+    ∷ (2 ∷ [], (powers_key (0 ∷ 1 ∷ []), pos 1) ∷ []) ∷ []
+unfolding sum_of single
+combined_starts = refl
 
 -- ---- normal forms in rank 3
 

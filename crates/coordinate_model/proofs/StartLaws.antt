@@ -1,32 +1,33 @@
--- The starts of joins and meets have the coordinates of those objects: the products are put together by their extensors,
--- and each product is a term of the join or of the meet.
+-- The starts of joins, meets and combinations have the coordinates of those objects: the products are put together by their
+-- extensors, and each product is a term of the object.
 use Rattle.std.proofs.Common.{◌≡◌, ℕ, zero, suc, ◌+◌, ◌-◌, ◌≤◌, ◌==◌, Bool, true, false, cond, List, [], ◌∷◌, ◌++◌}
 use Rattle.std.proofs.Common.{map, length}
 use Rattle.std.proofs.Common.{filter, flat_map, All, get_or, refl, sym, ap, ap₂, ◌∙◌, subst, arith, append-nil}
 use Rattle.std.proofs.Common.{eqb-true}
-use Rattle.std.specs.Prelude.{◌*ℤ◌, Some, None}
+use Rattle.std.specs.Prelude.{pos, ◌*ℤ◌, Some, None}
 use Rattle.std.specs.List.{AllByRecursion}
 use Rattle.std.proofs.lemmas.List.{length-map}
 use lib.ListN.{length-append}
 use Rattle.coordinate_model.specs.Ring.{of_int}
 use Rattle.coordinate_model.specs.Sequences.{IsRank, columns, range, splits, subsets, at_places, is_odd, repeats}
 use Rattle.coordinate_model.specs.Sequences.{sign_of}
-use Rattle.coordinate_model.specs.Brackets.{sum_over, signed, join, meet}
+use Rattle.coordinate_model.specs.Brackets.{sum_over, signed, join, meet, on}
 use Rattle.coordinate_model.specs.Sums.{Terms, sum_of, sum_value}
 use Rattle.coordinate_model.specs.Polynomial.{Polynomial, Polynomials, free_point, br}
 use Rattle.coordinate_model.specs.Key.{Key, key_cmp, key_value, rows_key}
-use Rattle.coordinate_model.specs.BracketPolynomial.{KeySums, mul, value}
+use Rattle.coordinate_model.specs.BracketPolynomial.{KeySums, BracketPolynomial, mul, value}
 use Rattle.coordinate_model.specs.Syzygy.{sorted, sorted_bracket, syz, use_key, use_term, additions}
 use Rattle.coordinate_model.specs.Value.{Value, coordinates}
 use Rattle.coordinate_model.specs.Starts.{Product, row_key, Entry, join_product, join_products, meet_product}
-use Rattle.coordinate_model.specs.Starts.{meet_products, reached, products_at, start_at, starts, has_term}
-use Rattle.coordinate_model.specs.StartLaws.{StartsOfJoin, StartsOfMeet, ZeroEntries, AdditionsOfMultiple}
+use Rattle.coordinate_model.specs.Starts.{meet_products, scaled_product, on_products, reached, products_at, start_at}
+use Rattle.coordinate_model.specs.Starts.{starts, has_term}
+use Rattle.coordinate_model.specs.StartLaws.{StartsOfJoin, StartsOfMeet, StartsOfOn, ZeroEntries, AdditionsOfMultiple}
 use Rattle.coordinate_model.proofs.RingLemmas as L
 use Rattle.coordinate_model.proofs.RingIntegers.{of_int-mul}
 use Rattle.coordinate_model.proofs.Hom.{signed-hom}
 use Rattle.coordinate_model.proofs.PolynomialRing.{polynomial_ring}
 use Rattle.coordinate_model.proofs.Ranks.{by_rank}
-use Rattle.coordinate_model.proofs.Grouping.{regroup, sum_over-flat_map}
+use Rattle.coordinate_model.proofs.Grouping.{regroup, sum_over-append, sum_over-flat_map}
 use Rattle.coordinate_model.proofs.Products.{product_value, value_of_start, signed-integer}
 use Rattle.coordinate_model.proofs.Openings.{value-is, meet_value-is, multiple-is, sorted_bracket-repeats}
 use Rattle.coordinate_model.proofs.Openings.{sorted_bracket-row}
@@ -86,20 +87,54 @@ sum_at-flat_map : {X : Type 0} (K : List ℕ) (f : X → List Product) (xs : Lis
     → sum_at K (flat_map f xs) ≡ sum_over Polynomials (λ x. sum_at K (f x)) xs
 sum_at-flat_map K f xs = sum_over-flat_map Polynomials polynomial_ring (λ p. product_value p ⊗ free p.extensor K) f xs
 
+-- a product times its extensor
+product_at : (K : List ℕ) (p : Product) (q : Polynomial)
+    → (of_int Polynomials p.sign ⊗ key_value (row_key p.row)) ⊗ free p.extensor K ≡ q
+    → product_value p ⊗ free p.extensor K ≡ (value p.left ⊗ value p.right) ⊗ q
+product_at K p q e =
+    let c : Polynomial = of_int Polynomials p.sign ⊗ key_value (row_key p.row) in
+    let v : Polynomial = value p.left ⊗ value p.right in
+    ap (λ t. t ⊗ free p.extensor K) (polynomial_ring.mul_comm c v)
+    ∙ polynomial_ring.mul_assoc v c (free p.extensor K) ∙ ap (λ t. v ⊗ t) e
+
 -- one product alone
 sum_at-one : (K : List ℕ) (p : Product) (q : Polynomial)
     → (of_int Polynomials p.sign ⊗ key_value (row_key p.row)) ⊗ free p.extensor K ≡ q
     → sum_at K (p ∷ []) ≡ (value p.left ⊗ value p.right) ⊗ q
-sum_at-one K p q e =
-    let c : Polynomial = of_int Polynomials p.sign ⊗ key_value (row_key p.row) in
-    let v : Polynomial = value p.left ⊗ value p.right in
-    polynomial_ring.add_zero ((c ⊗ v) ⊗ free p.extensor K)
-    ∙ ap (λ t. t ⊗ free p.extensor K) (polynomial_ring.mul_comm c v)
-    ∙ polynomial_ring.mul_assoc v c (free p.extensor K) ∙ ap (λ t. v ⊗ t) e
+sum_at-one K p q e = polynomial_ring.add_zero (product_value p ⊗ free p.extensor K) ∙ product_at K p q e
 
 -- no product, where there is nothing to add
 sum_at-none : (K : List ℕ) (v q : Polynomial) → q ≡ 𝟘 → sum_at K [] ≡ v ⊗ q
 sum_at-none K v q e = sym (ap (λ t. v ⊗ t) e ∙ L.mul_zero Polynomials polynomial_ring v)
+
+-- ---- combinations
+
+-- a product without a row and with the sign 1
+at_unit : (K : List ℕ) (x : List ℕ) → (of_int Polynomials (pos 1) ⊗ key_value (rows_key [])) ⊗ free x K ≡ free x K
+at_unit K x =
+    ap (λ t. t ⊗ free x K)
+    (ap₂ ◌⊗◌ (polynomial_ring.add_zero 𝟙) unit_value ∙ polynomial_ring.mul_one 𝟙)
+    ∙ L.one_mul Polynomials polynomial_ring (free x K)
+
+at_scaled : (K : List ℕ) (s : BracketPolynomial) (A : Value)
+    → sum_at K (map (scaled_product s) A) ≡ value s ⊗ coordinates A K
+unfolding coordinates
+at_scaled K s [] = sym (L.mul_zero Polynomials polynomial_ring (value s))
+at_scaled K s (e ∷ A) =
+    ap₂ ◌⊕◌
+    (product_at K (scaled_product s e) (free e.0 K) (at_unit K e.0)
+    ∙ ap (λ t. t ⊗ free e.0 K) (polynomial_ring.mul_comm (value e.1) (value s))
+    ∙ polynomial_ring.mul_assoc (value s) (value e.1) (free e.0 K))
+    (at_scaled K s A)
+    ∙ sym (polynomial_ring.mul_add (value s) (value e.1 ⊗ free e.0 K) (coordinates A K))
+
+pub starts_of_on : StartsOfOn
+unfolding on
+starts_of_on s t A B K =
+    coordinates_of_starts (on_products s t A B) K
+    ∙ sum_over-append Polynomials polynomial_ring (λ p. product_value p ⊗ free p.extensor K) (map (scaled_product s) A)
+    (map (scaled_product t) B)
+    ∙ ap₂ ◌⊕◌ (at_scaled K s A) (at_scaled K t B)
 
 -- ---- joins
 

@@ -1,9 +1,9 @@
 -- Bracket polynomials: the polynomials in brackets and parameters, as finite sums of integers times keys, and the
 -- coordinate polynomials that they stand for (Sturmfels, Algorithms in Invariant Theory, section 3.1).
-use Rattle.std.specs.Prelude.{ℕ, []}
+use Rattle.std.specs.Prelude.{ℕ, [], slice_set, replicate}
 use Rattle.std.specs.List.{AllByRecursion}
 use Rattle.coordinate_model.specs.Ring.{Ops}
-use Rattle.coordinate_model.specs.Sums.{Sum, Sums, sum_value}
+use Rattle.coordinate_model.specs.Sums.{Sum, Sums, single, sum_value}
 use Rattle.coordinate_model.specs.Polynomial.{Polynomial, Polynomials}
 use Rattle.coordinate_model.specs.Key.{Key, key_cmp, key_times, rows_key, key_value, IsKey, IsStandardKey}
 
@@ -22,6 +22,10 @@ add = KeySums.◌⊕◌
 -- the product of bracket polynomials
 abbrev pub mul : BracketPolynomial → BracketPolynomial → BracketPolynomial
 mul = KeySums.◌⊗◌
+
+-- the parameter i as a bracket polynomial of n parameters
+abbrev pub parameter_of : ℕ → ℕ → BracketPolynomial
+parameter_of n i = single key_cmp (record { exponents = slice_set (replicate n 0) i 1; rows = [] })
 
 -- the value: the sum, over the keys, of the integer times the value of the key
 unfoldable pub value : BracketPolynomial → Polynomial

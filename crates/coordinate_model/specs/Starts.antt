@@ -1,7 +1,7 @@
--- Starts: what the join or the meet of two values adds up before anything is rewritten. The products are those of the
--- exterior product and of the shuffle product (Sturmfels, Algorithms in Invariant Theory, section 3.3); the order in which
--- they are added is this library's own.
-use Rattle.std.specs.Prelude.{ℕ, ◌-◌, ◌==◌, ℤ, ◌*ℤ◌, if◌then◌else◌, List, [], ◌∷◌, ◌++◌, map, filter, flat_map, length}
+-- Starts: what the join, the meet or a combination of two values adds up before anything is rewritten. The products of joins
+-- and meets are those of the exterior product and of the shuffle product (Sturmfels, Algorithms in Invariant Theory, section
+-- 3.3); the order in which products are added is this library's own.
+use Rattle.std.specs.Prelude.{ℕ, ◌-◌, ◌==◌, ℤ, pos, ◌*ℤ◌, if◌then◌else◌, List, [], ◌∷◌, ◌++◌, map, filter, flat_map, length}
 use Rattle.std.specs.Prelude.{Option, Some, None, true, false, Bool}
 use Rattle.std.specs.Ordering.{eq_by_cmp}
 use Rattle.std.specs.declared.cmp.Ordering.TheVariants.{Less, Equal, Greater}
@@ -73,6 +73,14 @@ meet_products d A B =
     flat_map
     (λ e. flat_map (λ f. flat_map (meet_product e f) (splits (d - length f.0) (range (length e.0)))) B)
     A
+
+-- the product of an entry and a bracket polynomial, such as a parameter, which is added to the entry's own extensor
+abbrev pub scaled_product : BracketPolynomial → Entry → Product
+scaled_product s e = record { extensor = e.0; left = e.1; right = s; row = None; sign = pos 1 }
+
+-- the products of s * A + t * B: each entry of the one in order times s, then each of the other in order times t
+abbrev pub on_products : BracketPolynomial → BracketPolynomial → Value → Value → List Product
+on_products s t A B = map (scaled_product s) A ++ map (scaled_product t) B
 
 -- the extensor put in its place in an ascending list that has each once
 abbrev pub put_extensor : List ℕ → List (List ℕ) → List (List ℕ)

@@ -12,7 +12,8 @@ ghost use Rattle.coordinate_model.specs.SyzygyLaws.{ThreeTerms, ThreeTermsOfFree
 ghost use Rattle.coordinate_model.specs.ObjectLaws.{SortedExtensor, ZeroExtensor, FullExtensor, JoinLaw, LinearJoins};
 ghost use Rattle.coordinate_model.specs.ObjectLaws.{ShuffleLaw, MeetValue, LinearMeets, SameJoins, SameMeets};
 ghost use Rattle.coordinate_model.specs.ObjectLaws.{CombinationOfValues, JoinOfValues, MeetOfValues};
-ghost use Rattle.coordinate_model.specs.StartLaws.{StartsOfJoin, StartsOfMeet, ZeroEntries, AdditionsOfMultiple};
+ghost use Rattle.coordinate_model.specs.StartLaws.{StartsOfJoin, StartsOfMeet, StartsOfOn, ValueOfParameter};
+ghost use Rattle.coordinate_model.specs.StartLaws.{ZeroEntries, AdditionsOfMultiple};
 ghost use Rattle.coordinate_model.specs.NormalLaws.{SamePolynomials, SameBracketPolynomials, HasCoefficients};
 ghost use Rattle.coordinate_model.specs.NormalLaws.{KeySumLaws, ValueOfSum, ValueOfProduct, MakesBracketPolynomials};
 ghost use Rattle.coordinate_model.specs.NormalLaws.{LexicographicOrder, GreatestOfKey, OneKey, Independent};
@@ -105,11 +106,13 @@ pub fn objects()
     ensures meets { MeetOfValues }
 {}
 
-/// The starts of joins and meets have the coordinates of those objects, and so they have without the entries that lack
-/// a term.
+/// The starts of joins, meets and combinations have the coordinates of those objects, and so they have without the entries
+/// that lack a term. The value of a parameter is its variable.
 pub fn starts()
     ensures joins { StartsOfJoin }
     ensures meets { StartsOfMeet }
+    ensures combinations { StartsOfOn }
+    ensures parameters { ValueOfParameter }
     ensures zeros { ZeroEntries }
 {}
 

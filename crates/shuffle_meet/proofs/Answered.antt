@@ -1,16 +1,19 @@
--- What the sums of all products are: the starts of a join or of a meet, and so its coordinates.
+-- What the sums of all products are: the starts of a join, of a meet or of a combination, and so its coordinates.
 use Rattle.std.specs.Prelude.{◌≡◌, ℕ, ℤ, ◌+◌, ◌-◌, ◌<◌, ◌==◌, Bool, true, false, cond, List, [], ◌∷◌, map, filter, flat_map}
 use Rattle.std.specs.Prelude.{Option, None, Result, Ok, Err, OnErr, IfOk}
 use Rattle.std.specs.Result.{IsErrAnd}
 use Rattle.std.proofs.Common.{refl, sym, ap, ap₂, subst, ◌∙◌, arith, get_or, eqb-true}
 use Rattle.coordinate_model.specs.Sequences.{IsRank, subsets}
+use Rattle.coordinate_model.specs.Brackets.{on}
 use Rattle.coordinate_model.specs.Sums.{Terms, sum_of}
+use Rattle.coordinate_model.specs.Polynomial.{Polynomials}
 use Rattle.coordinate_model.specs.Key.{Key, key_cmp}
-use Rattle.coordinate_model.specs.BracketPolynomial.{KeySums, BracketPolynomial, add}
+use Rattle.coordinate_model.specs.BracketPolynomial.{KeySums, BracketPolynomial, add, parameter_of}
 use Rattle.coordinate_model.specs.Value.{Value as Entries, HasStep, coordinates}
 use Rattle.coordinate_model.specs.Starts.{Product, terms_of, reached, products_at, start_at, starts, has_term}
 use Rattle.coordinate_model.proofs.KeySumLaws.{add_assoc, add_comm, add_zero, terms-same, terms-add}
-use Rattle.coordinate_model.proofs.StartLaws.{zero_entries, starts_of_join, starts_of_meet}
+use Rattle.coordinate_model.proofs.BracketPolynomialLaws.{value_of_parameter}
+use Rattle.coordinate_model.proofs.StartLaws.{zero_entries, starts_of_join, starts_of_meet, starts_of_on}
 use Rattle.bracket_terms.specs.Joins.{points_of}
 use Rattle.bracket_poly.specs.Tracked.{Tracked, Limit, nothing, plus_term, plus_terms}
 use Rattle.bracket_poly.specs.declared.error.PolyError.{PolyError}
@@ -20,7 +23,7 @@ use Rattle.bracket_poly.specs.Values.{entry_of, value_of}
 use Rattle.bracket_poly.specs.Answers.{AnswersLimit}
 use Rattle.shuffle_meet.specs.Stops.{tracked_at, tracked_starts, tracked_entries, first_stop}
 use Rattle.shuffle_meet.specs.Seen.{seen}
-use Rattle.shuffle_meet.specs.Objects.{AreJoined, AreMet, joined, met, IsJoin, IsMeet}
+use Rattle.shuffle_meet.specs.Objects.{AreJoined, AreMet, joined, met, mixed, IsJoin, IsMeet, IsMixed}
 use Rattle.shuffle_meet.specs.Adding.{AddsProducts}
 use Rattle.shuffle_meet.proofs.SeenLaws as code
 use Rattle.shuffle_meet.proofs.Sifting.{has_sum}
@@ -129,6 +132,15 @@ is_meet d a b c rank h e k x l =
     ∙ starts_of_meet d a.step b.step (value_of a.entries) (value_of b.entries) rank
     (h.first, h.first_below, h.second, h.second_below, h.many) (steps_of d a h.first_below) (steps_of d b h.second_below) k
     x l
+
+pub is_mixed : (d s t : ℕ) (a b c : Value d) → s < 64 → t < 64 → seen c.entries ≡ tracked_entries (mixed s t a b)
+    → IsMixed s t a b c
+is_mixed d s t a b c first second e k x l =
+    let K : List ℕ = get_or (subsets d 1) k x in
+    coordinates_of c.entries (mixed s t a b) K e
+    ∙ starts_of_on (parameter_of 64 s) (parameter_of 64 t) (value_of a.entries) (value_of b.entries) K
+    ∙ ap₂ (λ p q. on Polynomials p q (coordinates (value_of a.entries)) (coordinates (value_of b.entries)) K)
+    (value_of_parameter 64 s first) (value_of_parameter 64 t second)
 
 -- ---- what the calls answer at the end
 

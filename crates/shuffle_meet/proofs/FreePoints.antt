@@ -1,5 +1,5 @@
 -- The value of a free point, for the tests.
-use Rattle.std.specs.Prelude.{◌≡◌, ℕ, zero, suc, ◌+◌, ◌==◌, cond, ◌<◌, ◌≤◌, true, false, [], ◌∷◌, pos, replicate}
+use Rattle.std.specs.Prelude.{◌≡◌, ℕ, ◌+◌, ◌==◌, cond, ◌<◌, ◌≤◌, true, false, [], ◌∷◌, pos, replicate}
 use Rattle.std.specs.List.{AllByRecursion}
 use Rattle.std.proofs.Common.{refl, sym, ap, ap₂, subst, ◌∙◌, arith, lit≤}
 use Rattle.coordinate_model.specs.Sums.{Terms}
@@ -15,9 +15,10 @@ use Rattle.bracket_poly.specs.Kept.{TrackedOf}
 use Rattle.bracket_poly.specs.Values.{entry_of, IsValue}
 use Rattle.shuffle_meet.specs.Sizes.{KeyWithin, IsWithin}
 use Rattle.bracket_poly.specs.declared.value.Value.{Value}
-use Rattle.shuffle_meet.specs.Objects.{AreJoined, AreMet, ProductsFit, rows_of_join}
-use Rattle.shuffle_meet.proofs.ObjectSizes.{products_fit}
+use Rattle.shuffle_meet.specs.Objects.{AreJoined, AreMet, ProductsFit, ParameterFits, rows_of_join}
+use Rattle.shuffle_meet.proofs.ObjectSizes.{products_fit, parameter_fits}
 use Rattle.shuffle_meet.proofs.SeenLaws.{Entries}
+use Rattle.shuffle_meet.proofs.SizeLaws.{all_replicate}
 
 -- the key 1, and the polynomial 1
 abbrev unit_key : Key
@@ -44,15 +45,6 @@ point_value x w es size e u =
     term =
         ap (λ ts. elim ts [ [] ↦ false | t ∷ us ↦ true ]) (ap (λ (f : Tracked). f.sum.terms) u ∙ unit_terms)
 
--- exponents that are 0
-none : (n : ℕ) → AllByRecursion (λ (x : ℕ). x ≡ 0) (replicate n 0)
-none zero = tt
-none (suc n) = (refl, none n)
-
-least : (n : ℕ) → AllByRecursion (λ (x : ℕ). x ≤ 0) (replicate n 0)
-least zero = tt
-least (suc n) = (lit≤ tt, least n)
-
 pub point_within : (x : Extensor) (w : TrackedOf 3) (es : Entries 3) (i : ℕ) → points_of x ≡ i ∷ [] → i < 256
     → es ≡ (x, w) ∷ [] → w.tracked ≡ unit → IsWithin 256 0 0 0 es
 point_within x w es i p h e u =
@@ -67,7 +59,12 @@ point_within x w es i p h e u =
     )
   where
     one : KeyWithin 256 0 0 0 unit_key
-    one = record { points_below = tt; no_others = none 64; few_rows = lit≤ tt; small = least 64 }
+    one = record {
+      points_below = tt;
+      no_others = all_replicate (λ x. x ≡ 0) 64 0 refl;
+      few_rows = lit≤ tt;
+      small = all_replicate (λ x. x ≤ 0) 64 0 (lit≤ tt);
+    }
 
 -- two points that are joined, a line and a point, and two lines that meet
 pub two_points : (a b : ℕ) → a ≡ 1 → b ≡ 1 → AreJoined 3 a b
@@ -105,3 +102,6 @@ no_more_rows a b c e f h =
 
 pub small_fit : (a b : Value 3) → IsWithin 256 0 0 0 a.entries → IsWithin 256 0 0 0 b.entries → ProductsFit a b
 small_fit a b h k = products_fit 3 256 0 0 0 0 0 a b (lit≤ tt) h k
+
+pub multiple_fits : (s : ℕ) (a : Value 3) → IsWithin 256 0 0 0 a.entries → ParameterFits s a
+multiple_fits s a h = parameter_fits 3 256 0 0 0 s a (lit≤ tt) h

@@ -10,4 +10,5 @@ pub mod Pairs
 pub mod SizeLaws
 pub mod ObjectSizes
 pub mod MeetSteps
+pub mod MixSteps
 pub mod FreePoints

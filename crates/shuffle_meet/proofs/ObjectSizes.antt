@@ -1,27 +1,37 @@
--- Each product of a join or of a meet has the points and parameters of the two values, and the rows and degree of both.
-use Rattle.std.specs.Prelude.{◌≡◌, ℕ, ◌+◌, ◌-◌, ◌<◌, ◌≤◌, ◌==◌, Bool, true, false, cond, List, [], ◌∷◌, ◌++◌, flat_map, length, Some, None, ◌*ℤ◌}
+-- The products of joins, meets and combinations have the points and parameters that go into them, and their rows and degrees
+-- are bounded by those of the two values.
+use Rattle.std.specs.Prelude.{◌≡◌, ℕ, ◌+◌, ◌-◌, ◌<◌, ◌≤◌, ◌==◌, max, Bool, true, false, cond, List, [], ◌∷◌, ◌++◌, map, flat_map, length, Some, None, ◌*ℤ◌}
+use Rattle.std.specs.Prelude.{replicate, slice_set}
 use Rattle.std.specs.List.{AllByRecursion}
-use Rattle.std.proofs.Common.{refl, sym, subst, arith, length-append, eq-eqb, eqb-true}
+use Rattle.std.proofs.Common.{refl, sym, subst, ◌∙◌, arith, lit≤, length-append, eq-eqb, eqb-true}
+use Rattle.std.proofs.lemmas.List.{drop-set-lt, drop-replicate}
 use Rattle.std.specs.Ordering.{nat_cmp}
 use Rattle.coordinate_model.specs.Sequences.{range, splits, at_places, repeats, sign_of}
-use Rattle.coordinate_model.specs.BracketPolynomial.{AllKeys}
+use Rattle.coordinate_model.specs.BracketPolynomial.{AllKeys, parameter_of}
 use Rattle.coordinate_model.specs.Syzygy.{sorted}
 use Rattle.coordinate_model.specs.Value.{Value as Listed, HasStep}
 use Rattle.coordinate_model.specs.Starts.{Product, Entry, join_product, join_products, meet_product, meet_products}
+use Rattle.coordinate_model.specs.Starts.{scaled_product}
+use Rattle.coordinate_model.proofs.KeySets.{all_single}
 use Rattle.coordinate_model.proofs.SortedRows.{all_ordered}
+use Rattle.coordinate_model.proofs.Splits.{all_map, all_append}
 use Rattle.bracket_terms.specs.declared.extensor.Extensor.{Extensor}
 use Rattle.bracket_poly.specs.declared.value.Value.{Value}
 use Rattle.bracket_poly.specs.Kept.{TrackedOf}
 use Rattle.bracket_poly.specs.Products.{HasDegree, ExponentsFit}
 use Rattle.bracket_poly.proofs.Degrees.{exponents_fit}
-use Rattle.bracket_poly.specs.Values.{value_of}
+use Rattle.bracket_poly.specs.Values.{entry_of, value_of}
 use Rattle.shuffle_meet.specs.Sizes.{KeyWithin, EntryWithin, IsWithin}
 use Rattle.shuffle_meet.specs.Stops.{tracked_entries}
 use Rattle.shuffle_meet.specs.Seen.{seen}
-use Rattle.shuffle_meet.specs.Objects.{AreJoined, ProductsFit, joined, met, AddsSizes, rows_of_join}
+use Rattle.shuffle_meet.specs.Objects.{AreJoined, ProductsFit, ParameterFits, joined, met, mixed, AddsSizes, MixesSizes, rows_of_join}
 use Rattle.shuffle_meet.proofs.SeenLaws.{Entries}
-use Rattle.shuffle_meet.proofs.SizeLaws.{ProductWithin, within_product, within_entries, all_flat, all_from, all_joined, all_at_places}
+use Rattle.shuffle_meet.proofs.SizeLaws.{ProductWithin, within_product, within_entries, wider_product, all_flat, all_from, all_joined, all_at_places, all_replicate, all_set}
 use Rattle.shuffle_meet.proofs.Answered.{steps_of}
+
+-- the exponents of a parameter
+small_parameter : (i : ℕ) → AllByRecursion (λ x. x ≤ 1) (slice_set (replicate 64 0) i 1)
+small_parameter i = all_set (λ x. x ≤ 1) (replicate 64 0) i 1 (lit≤ tt) (all_replicate (λ x. x ≤ 1) 64 0 (lit≤ tt))
 
 module _ (points parameters : ℕ) where
   -- an entry of the model with such points and keys
@@ -130,6 +140,30 @@ module _ (points parameters : ℕ) where
             each [] = tt
             each (t ∷ ts) = all_joined _ (meet_product e f t) (flat_map (meet_product e f) ts) (meet_pair e f t x y) (each ts)
 
+  -- ---- a parameter
+
+  parameter_within : (i : ℕ) → i < parameters → AllKeys (KeyWithin points parameters 0 1) (parameter_of 64 i)
+  parameter_within i h = all_single (KeyWithin points parameters 0 1) _ (record {
+    points_below = tt;
+    no_others = subst (AllByRecursion (λ x. x ≡ 0))
+        (sym (drop-set-lt parameters (replicate 64 0) i 1 h ∙ drop-replicate parameters 64 0))
+        (all_replicate (λ x. x ≡ 0) (64 - parameters) 0 refl);
+    few_rows = lit≤ tt;
+    small = small_parameter i;
+  })
+
+  -- the products of entries and a parameter
+  scaled_within : (r m rows degree i : ℕ) (A : Listed) → r ≤ rows → m + 1 ≤ degree → i < parameters
+      → AllByRecursion (HasSize r m) A
+      → AllByRecursion (ProductWithin points parameters rows degree) (map (scaled_product (parameter_of 64 i)) A)
+  scaled_within r m rows degree i A few low h x =
+      all_map (HasSize r m) (ProductWithin points parameters rows degree) (scaled_product (parameter_of 64 i))
+      (λ e y. wider_product points parameters (r + 0 + 0) (m + 1) rows degree (scaled_product (parameter_of 64 i) e)
+      (omega arith) low
+      (within_product points parameters r m 0 1 0 (scaled_product (parameter_of 64 i) e) y.points_below y.keys
+      (parameter_within i h) (lit≤ tt) tt))
+      A x
+
 pub join_sizes : (d : ℕ) (a b c : Value d) → AreJoined d a.step b.step → seen c.entries ≡ tracked_entries (joined a b)
     → AddsSizes (rows_of_join a b) a b c
 join_sizes d a b c h e points parameters r m s n x y =
@@ -144,24 +178,43 @@ meet_sizes d a b c e points parameters r m s n x y =
     (meets_within points parameters r m s n d (value_of a.entries) (value_of b.entries)
     (of_code points parameters r m a.entries x) (of_code points parameters s n b.entries y))
 
+pub mix_sizes : (d s t : ℕ) (a b c : Value d) → seen c.entries ≡ tracked_entries (mixed s t a b) → MixesSizes s t a b c
+mix_sizes d s t a b c e points parameters r m q n h k x y =
+    within_entries points parameters (max r q) (max m n + 1) c.entries (mixed s t a b) e
+    (all_append _ (map (scaled_product (parameter_of 64 s)) (value_of a.entries)) _
+    (scaled_within points parameters r m (max r q) (max m n + 1) s (value_of a.entries) (omega arith) (omega arith) h
+    (of_code points parameters r m a.entries x))
+    (scaled_within points parameters q n (max r q) (max m n + 1) t (value_of b.entries) (omega arith) (omega arith) k
+    (of_code points parameters q n b.entries y)))
+
+-- the degree of an entry's polynomial
+has_degree : {d : ℕ} (points parameters rows n : ℕ) (e : Extensor × TrackedOf d) → EntryWithin points parameters rows n e
+    → HasDegree n e.1.tracked.sum
+has_degree points parameters rows n e w =
+    all_from (λ t. KeyWithin points parameters rows n t.0) (λ t. AllByRecursion (λ x. x ≤ n) t.0.exponents)
+    (λ t x. x.small) e.1.tracked.sum.terms w.keys
+
+-- values whose exponents are small can be multiplied by a parameter
+pub parameter_fits : (d points parameters r m s : ℕ) (a : Value d) → m + 1 ≤ 65535
+    → IsWithin points parameters r m a.entries → ParameterFits s a
+parameter_fits d points parameters r m s a room h =
+    all_map (EntryWithin points parameters r m) (λ e. ExponentsFit e.1 (parameter_of 64 s)) entry_of
+    (λ e w. exponents_fit m 1 e.1.tracked.sum (parameter_of 64 s) room (has_degree points parameters r m e w)
+    (all_single (λ k. AllByRecursion (λ x. x ≤ 1) k.exponents) _ (small_parameter s)))
+    a.entries h
+
 -- values whose exponents are small can be joined and can meet
 pub products_fit : (d points parameters r m s n : ℕ) (a b : Value d) → m + n ≤ 65535
     → IsWithin points parameters r m a.entries → IsWithin points parameters s n b.entries → ProductsFit a b
 products_fit d points parameters r m s n a b room h k = each a.entries h
   where
-    degree : (i : ℕ) (e : Extensor × TrackedOf d) (rows : ℕ) → EntryWithin points parameters rows i e
-        → HasDegree i e.1.tracked.sum
-    degree i e rows w =
-        all_from (λ t. KeyWithin points parameters rows i t.0) (λ t. AllByRecursion (λ x. x ≤ i) t.0.exponents)
-        (λ t x. x.small) e.1.tracked.sum.terms w.keys
-
     inner : (e : Extensor × TrackedOf d) (fs : Entries d) → HasDegree m e.1.tracked.sum → IsWithin points parameters s n fs
         → AllByRecursion (λ f. ExponentsFit e.1.tracked.sum f.1) (value_of fs)
     inner e [] x y = tt
     inner e (f ∷ fs) x y =
-        (exponents_fit m n e.1.tracked.sum f.1.tracked.sum room x (degree n f s y.0), inner e fs x y.1)
+        (exponents_fit m n e.1.tracked.sum f.1.tracked.sum room x (has_degree points parameters s n f y.0), inner e fs x y.1)
 
     each : (es : Entries d) → IsWithin points parameters r m es
         → AllByRecursion (λ e. AllByRecursion (λ f. ExponentsFit e.1 f.1) (value_of b.entries)) (value_of es)
     each [] x = tt
-    each (e ∷ es) x = (inner e b.entries (degree m e r x.0) k, each es x.1)
+    each (e ∷ es) x = (inner e b.entries (has_degree points parameters r m e x.0) k, each es x.1)

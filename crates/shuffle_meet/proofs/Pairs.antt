@@ -23,12 +23,12 @@ use Rattle.shuffle_meet.proofs.Answered.{steps_of}
 -- ---- what holds of entries of the code
 
 module _ (d : ℕ) where
+  pub sizes_by : (n : ℕ) (es : Entries d) → HasStep n (value_of es) → HaveSize n es
+  sizes_by n [] i = tt
+  sizes_by n (e ∷ es) i = (sym (length-points_of e.0.size e.0.points e.0.formed) ∙ i.0, sizes_by n es i.1)
+
   pub sizes_of_value : (a : Value d) → a.step < d → HaveSize a.step a.entries
-  sizes_of_value a h = each a.entries (steps_of d a h)
-    where
-      each : (es : Entries d) → HasStep a.step (value_of es) → HaveSize a.step es
-      each [] i = tt
-      each (e ∷ es) i = (sym (length-points_of e.0.size e.0.points e.0.formed) ∙ i.0, each es i.1)
+  sizes_of_value a h = sizes_by a.step a.entries (steps_of d a h)
 
   exponents_of_values : (a b : Value d) → ProductsFit a b
       → AllByRecursion (λ e. AllByRecursion (PairFits e) b.entries) a.entries

@@ -1,6 +1,6 @@
 -- The sizes of the keys and extensors of joins and meets.
 use Rattle.std.specs.Prelude.{◌≡◌, ℕ, zero, suc, ◌+◌, ◌<◌, ◌≤◌, Bool, true, false, cond, List, [], ◌∷◌, ◌++◌}
-use Rattle.std.specs.Prelude.{map, filter, flat_map, drop, length, slice_get, Option, Some, None}
+use Rattle.std.specs.Prelude.{map, filter, flat_map, drop, length, slice_get, slice_set, replicate, Option, Some, None}
 use Rattle.std.specs.List.{AllByRecursion, cons_option}
 use Rattle.std.proofs.Common.{refl, sym, ap, subst, ◌∙◌, arith, add-zero, length-append}
 use Rattle.coordinate_model.specs.Sequences.{at_places}
@@ -42,6 +42,16 @@ all_from P Q f (x ∷ xs) h = (f x h.0, all_from P Q f xs h.1)
 all_of : {A : Type 0} (Q : A → Type 0) → ((x : A) → Q x) → (xs : List A) → AllByRecursion Q xs
 all_of Q f [] = tt
 all_of Q f (x ∷ xs) = (f x, all_of Q f xs)
+
+pub all_replicate : {A : Type 0} (P : A → Type 0) (n : ℕ) (x : A) → P x → AllByRecursion P (replicate n x)
+all_replicate P zero x h = tt
+all_replicate P (suc n) x h = (h, all_replicate P n x h)
+
+pub all_set : {A : Type 0} (P : A → Type 0) (xs : List A) (i : ℕ) (v : A) → P v → AllByRecursion P xs
+    → AllByRecursion P (slice_set xs i v)
+all_set P [] i v p h = tt
+all_set P (x ∷ xs) zero v p h = (p, h.1)
+all_set P (x ∷ xs) (suc i) v p h = (h.0, all_set P xs i v p h.1)
 
 all_and_at : {A : Type 0} (P : A → Type 0) (xs : List A) (i : ℕ) (rest : List A) → AllByRecursion P xs
     → AllByRecursion P rest → AllByRecursion P (cons_option (slice_get xs i) rest)
@@ -177,6 +187,25 @@ module _ (points parameters : ℕ) where
       same_degree : (k : Key) → KeyWithin points parameters (r + s + more) (e + f + 0) k
           → KeyWithin points parameters (r + s + more) (e + f) k
       same_degree k h = subst (λ (n : ℕ). KeyWithin points parameters (r + s + more) n k) (add-zero (e + f)) h
+
+  -- what is within bounds is so within wider ones
+  wider_key : (r e s f : ℕ) (k : Key) → r ≤ s → e ≤ f → KeyWithin points parameters r e k → KeyWithin points parameters s f k
+  wider_key r e s f k few low h =
+      let a : length k.rows ≤ r = h.few_rows in
+      record {
+        points_below = h.points_below;
+        no_others = h.no_others;
+        few_rows = omega arith;
+        small = all_from (λ x. x ≤ e) (λ x. x ≤ f) (λ x l. omega arith) k.exponents h.small;
+      }
+
+  pub wider_product : (r e s f : ℕ) (p : Product) → r ≤ s → e ≤ f → ProductWithin r e p → ProductWithin s f p
+  wider_product r e s f p few low h = record {
+    extensor = h.extensor;
+    terms =
+        all_from (λ t. KeyWithin points parameters r e t.0) (λ t. KeyWithin points parameters s f t.0)
+        (λ t x. wider_key r e s f t.0 few low x) (terms_of p) h.terms;
+  }
 
   -- ---- sums of products
 

@@ -1,9 +1,10 @@
-//! Joins and meets of values of the Grassmann-Cayley algebra.
+//! Joins, meets and combinations of values of the Grassmann-Cayley algebra.
 #![tactic(auto)]
 
 mod adding;
 mod joining;
 mod meeting;
+mod mixing;
 mod points;
 mod starts;
 #[cfg(test)]
@@ -11,3 +12,4 @@ mod tests;
 
 pub use joining::join;
 pub use meeting::meet;
+pub use mixing::on;

@@ -4,7 +4,7 @@ ghost use Rattle.bracket_terms.specs.Joins.{points_of};
 ghost use Rattle.bracket_poly.specs.Tracked.{nothing, plus_term};
 ghost use Rattle.shuffle_meet.specs.Sizes.{IsWithin};
 
-use crate::{join, meet};
+use crate::{join, meet, on};
 use bracket_poly::{Key, Poly, Value};
 use bracket_terms::{Extensor, Items, Params};
 use std::alloc::Global;
@@ -75,6 +75,25 @@ fn has_term(poly: &Poly<3>, coefficient: i128, points: [u8; 3]) -> bool {
         })
 }
 
+/// An entry with one term of no bracket: the places of the extensor, the integer and the parameters.
+type Multiple = ([u8; 4], i128, Params);
+
+/// Whether the value has these entries.
+fn has_multiples(value: &Value<3>, multiples: &[Multiple]) -> bool {
+    value.entries.items().len() == multiples.len()
+        && value.entries.items().iter().zip(multiples).all(|(entry, multiple)| entry.0.points
+            == multiple.0
+            && is_multiple(&entry.1, multiple.1, multiple.2))
+}
+
+/// Whether the polynomial has one term of no bracket, this one.
+fn is_multiple(poly: &Poly<3>, coefficient: i128, params: Params) -> bool {
+    poly.len() == 1
+        && poly.terms().all(|(key, c)| c == coefficient
+            && key.params == params
+            && key.tableau.rows().is_empty())
+}
+
 #[test]
 fn meets_two_lines(rt: HostRuntime) -> Result<(), Fail> {
     let alloc = rt.alloc();
@@ -93,5 +112,20 @@ fn joins_a_line_and_a_point(rt: HostRuntime) -> Result<(), Fail> {
     assert!(rt; has_entries(&joined, &[([0; 4], -1, [1, 2, 3])]));
     let shared = join(alloc, &line(alloc, 2, 1)?, &point(alloc, 2)?)?;
     assert_eq!(rt; shared.entries.items().len(), 0);
+    Ok(())
+}
+
+#[test]
+fn combines_two_points(rt: HostRuntime) -> Result<(), Fail> {
+    let alloc = rt.alloc();
+    let mixed = on(alloc, &point(alloc, 1)?, &point(alloc, 2)?, 0, 1)?;
+    let multiples = [
+        ([1, 0, 0, 0], 1, Params::single(0)),
+        ([2, 0, 0, 0], 1, Params::single(1)),
+    ];
+    assert_eq!(rt; mixed.step, 1);
+    assert!(rt; has_multiples(&mixed, &multiples));
+    let doubled = on(alloc, &point(alloc, 1)?, &point(alloc, 1)?, 0, 0)?;
+    assert!(rt; has_multiples(&doubled, &[([1, 0, 0, 0], 2, Params::single(0))]));
     Ok(())
 }
