@@ -7,25 +7,26 @@ use Rattle.std.specs.List.{AllByRecursion}
 use Rattle.std.proofs.Math.ListN.{get_or-map}
 use Rattle.std.proofs.lemmas.List.{length-map}
 use Rattle.coordinate_model.specs.Sequences.{IsRank, columns, subsets}
-use Rattle.coordinate_model.specs.Polynomial.{Polynomials, free_point}
+use Rattle.coordinate_model.specs.Brackets.{on}
+use Rattle.coordinate_model.specs.Polynomial.{Polynomials, Polynomial, free_point, parameter, monomial}
 use Rattle.coordinate_model.specs.Key.{IsKey}
-use Rattle.coordinate_model.specs.BracketPolynomial.{BracketPolynomial, value}
-use Rattle.coordinate_model.specs.Starts.{Product, starts, join_products, meet_products}
+use Rattle.coordinate_model.specs.BracketPolynomial.{BracketPolynomial, parameter_of, value}
+use Rattle.coordinate_model.specs.Starts.{Product, starts, join_products, meet_products, on_products}
 use Rattle.coordinate_model.specs.Value.{Value, coordinates}
 use Rattle.coordinate_model.proofs.Agreement.{same-joins, same-meets}
-use Rattle.coordinate_model.proofs.BracketPolynomialLaws.{value_of_one}
+use Rattle.coordinate_model.proofs.BracketPolynomialLaws.{value_of_one, value_of_parameter}
 use Rattle.coordinate_model.proofs.KeySets.{all_single}
 use Rattle.coordinate_model.proofs.PolynomialRing.{polynomial_ring}
 use Rattle.coordinate_model.proofs.Ranks.{by_rank}
 use Rattle.coordinate_model.proofs.RingLemmas as L
 use Rattle.coordinate_model.proofs.Splits.{at_each}
-use Rattle.coordinate_model.proofs.StartLaws.{starts_of_join, starts_of_meet}
-use Rattle.coordinate_model.proofs.StartSizes.{IsEntry, IsSizedProduct, has_step, joins-sized, meets-sized}
+use Rattle.coordinate_model.proofs.StartLaws.{starts_of_join, starts_of_meet, starts_of_on}
+use Rattle.coordinate_model.proofs.StartSizes.{IsEntry, IsSizedProduct, has_step, joins-sized, meets-sized, combinations-sized, parameter-keys}
 use Rattle.coordinate_model.proofs.ValueLaws.{free_one, coordinates-more, coordinates-none}
 use Rattle.step_types.specs.declared.measure.Measure.{Measure}
 use Rattle.cayley_terms.specs.declared.instr.Instr.{Instr}
 use Rattle.cayley_terms.specs.declared.instr.Instr.TheVariants.{Free, Join, Meet, On, Conic}
-use Rattle.cayley_terms.specs.Figures.{Figure, no_figure, point, joined, met, scalar}
+use Rattle.cayley_terms.specs.Figures.{Figure, no_figure, point, joined, met, mixed, scalar}
 use Rattle.cayley_terms.specs.Instrs.{no_measure, measure_at, instr_measure, figure_at, instr_figure}
 use Rattle.cayley_terms.specs.Meaning.{Variables}
 use Rattle.cayley_terms.specs.Programs.{IsInner, IsLast}
@@ -161,6 +162,38 @@ module _ (d : ℕ) (rank : IsRank d) (x y : Made) (h : IsMade d x) (k : IsMade d
             ∙ same-meets Polynomials d a b (coordinates x.value) (coordinates y.value) x.figure.coordinates
             y.figure.coordinates (get_or (subsets d (a + b - d)) i z) h.is_value k.is_value;
       }
+
+  -- the variable of a parameter
+  abbrev variable : ℕ → Polynomial
+  variable s = monomial (parameter s ∷ [])
+
+  same_mixed : (s t : ℕ) (K : List ℕ) → s < 64 → t < 64 → coordinates x.value K ≡ x.figure.coordinates K
+      → coordinates y.value K ≡ y.figure.coordinates K
+      → on Polynomials (value (parameter_of 64 s)) (value (parameter_of 64 t)) (coordinates x.value) (coordinates y.value) K
+      ≡ on Polynomials (variable s) (variable t) x.figure.coordinates y.figure.coordinates K
+  unfolding on
+  same_mixed s t K p q e f =
+      ap₂ Polynomials.◌⊕◌ (ap₂ Polynomials.◌⊗◌ (value_of_parameter 64 s p) e)
+      (ap₂ Polynomials.◌⊗◌ (value_of_parameter 64 t q) f)
+
+  pub on_work : (s t : ℕ) → s < 64 → t < 64 → x.figure.step ≡ 1 → y.figure.step ≡ 1
+      → IsWork d 1 1 (on_products (parameter_of 64 s) (parameter_of 64 t) x.value y.value)
+      (mixed Polynomials (variable s) (variable t) x.figure y.figure)
+  on_work s t p q one two = record {
+    sized =
+        combinations-sized d 64 1 (parameter_of 64 s) (parameter_of 64 t) (parameter-keys d 64 s) (parameter-keys d 64 t)
+        x.value y.value (subst (λ n. AllByRecursion (IsEntry d 64 n) x.value) one h.entries)
+        (subst (λ n. AllByRecursion (IsEntry d 64 n) y.value) two k.entries);
+    none = λ e. below_none d 1 (let l = rank.0 in omega arith) e;
+    steps = refl;
+    same = λ i z l.
+        let K = get_or (subsets d 1) i z in
+        starts_of_on (parameter_of 64 s) (parameter_of 64 t) x.value y.value K
+        ∙ same_mixed s t K p q (subst (λ n. IsAtAll n x) one h.is_value i z l) (subst (λ n. IsAtAll n y) two k.is_value i z l);
+  }
+    where
+      IsAtAll : ℕ → Made → Type 0
+      IsAtAll n m = All (λ K. coordinates m.value K ≡ m.figure.coordinates K) (subsets d n)
 
 module _ (d step a : ℕ) (rank : IsRank d) (ps : List Product) (figure : Figure Polynomials)
     (w : IsWork d step a ps figure) (log : Log) (sections : AllEndWell d log.objects) where
@@ -308,7 +341,14 @@ module _ (d : ℕ) (rank : IsRank d) (made : List Made) (log : Log) (all : AllBy
       (meet_products d (value_at log a) (value_at log b)) (figure_of (Meet a b))
       (meet_work d rank (at a) (at b) x y (omega arith)) log sections (instr_measure d (measures_of made) (Meet a b)) refl
       h.sized.least h.sized.below refl
-  inner_instr (On a b s t) r h = absurd r
+  inner_instr (On a b s t) r h =
+      let x : IsMade d (at a) = is_at a h.earlier.0 in
+      let y : IsMade d (at b) = is_at b h.earlier.1.0 in
+      let steps = h.steps in
+      adds_inner d 1 1 rank (on_products (parameter_of 64 s) (parameter_of 64 t) (value_at log a) (value_at log b))
+      (figure_of (On a b s t))
+      (on_work d rank (at a) (at b) x y s t steps.2 steps.3 (sym x.step ∙ steps.0) (sym y.step ∙ steps.1)) log sections
+      (instr_measure d (measures_of made) (On a b s t)) refl (omega arith) (let l = rank.0 in omega arith) refl
   inner_instr (Conic p1 p2 p3 p4 p5 p6) r h = absurd r
 
   pub last_instr : (instr : Instr) → IsRun instr → IsLast d (measures_of made) instr
@@ -340,5 +380,5 @@ module _ (d : ℕ) (rank : IsRank d) (made : List Made) (log : Log) (all : AllBy
       (meet_products d (value_at log a) (value_at log b)) (figure_of (Meet a b))
       (meet_work d rank (at a) (at b) x y (omega arith)) log sections
       (ap (λ p. p || (step_of (Meet a b) == d)) (eq-eqb (step_of (Meet a b)) 0 (let z : step_of (Meet a b) ≡ 0 = omega arith in z)))
-  last_instr (On a b s t) r h = absurd r
+  last_instr (On a b s t) r h = absurd h.steps
   last_instr (Conic p1 p2 p3 p4 p5 p6) r h = absurd r

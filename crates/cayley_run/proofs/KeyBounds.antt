@@ -1,6 +1,6 @@
 -- Bounds of keys: of products, and of keys and uses that have the parameters and the points of others.
 use Rattle.std.proofs.Common.{◌≡◌, ℕ, zero, suc, ◌+◌, ◌-◌, ◌*◌, ◌<◌, ◌≤◌, ◌==◌, Bool, true, false, cond, List, [], ◌∷◌, ◌++◌, length}
-use Rattle.std.proofs.Common.{refl, sym, ap, ap₂, subst, ◌∙◌, arith, flat_map, nat_cmp}
+use Rattle.std.proofs.Common.{refl, sym, ap, ap₂, subst, ◌∙◌, arith, flat_map, map, replicate, slice_set, get_or, nat_cmp}
 use Rattle.std.specs.Prelude.{Some, None, ◌*ℤ◌, slice_get}
 use Rattle.std.specs.List.{AllByRecursion, cons_option}
 use lib.ListN.{length-append}
@@ -8,17 +8,19 @@ use Rattle.coordinate_model.specs.Sequences.{range, splits, at_places, repeats, 
 use Rattle.coordinate_model.specs.Key.{Key, key_times, row_cmp, points, rows_key, IsRow, IsKey, HasPoints}
 use Rattle.coordinate_model.specs.Syzygy.{Use, AreSizes, sorted}
 use Rattle.coordinate_model.specs.Starts.{Product, Entry, row_key, terms_of, join_product, join_products, meet_product}
-use Rattle.coordinate_model.specs.Starts.{meet_products}
+use Rattle.coordinate_model.specs.Starts.{meet_products, scaled_product, on_products}
+use Rattle.coordinate_model.specs.BracketPolynomial.{BracketPolynomial, parameter_of}
 use Rattle.coordinate_model.specs.Value.{Value}
-use Rattle.coordinate_model.proofs.KeySets.{AllTerms}
+use Rattle.coordinate_model.proofs.KeySets.{AllTerms, all_single}
 use Rattle.coordinate_model.proofs.KeySizes.{exponent-added, added_up_to, length-in_order, length-points, all_points}
 use Rattle.coordinate_model.proofs.KeySizes.{each_row, same_length, all_of_same, same_rows}
 use Rattle.coordinate_model.proofs.SortedRows.{all_ordered}
-use Rattle.coordinate_model.proofs.Splits.{all_so, all_append, all_flat_map}
+use Rattle.coordinate_model.proofs.Splits.{all_so, all_append, all_map, all_flat_map}
 use Rattle.coordinate_model.proofs.StartKeys.{keys-product}
 use Rattle.step_types.specs.declared.measure.Measure.{Measure}
 use Rattle.straightening.specs.RunLaws.{use_points}
-use Rattle.cayley_terms.specs.Instrs.{join_measure, meet_measure}
+use Rattle.cayley_terms.specs.Instrs.{join_measure, meet_measure, on_measure}
+use Rattle.shuffle_meet.proofs.SizeLaws.{all_set, all_replicate}
 use Rattle.cayley_run.specs.Bounds.{ArePoints, AreExponents, IsKeyWithin, IsPolynomialWithin, IsUseWithin}
 
 -- an entry of a value within these bounds
@@ -219,6 +221,52 @@ module _ (n m : ℕ) where
         any : (ts : List (List ℕ × List ℕ)) → AllByRecursion (λ t. Unit {0}) ts
         any [] = tt
         any (t ∷ ts) = (tt, any ts)
+
+  -- ---- points by parameters
+
+  parameter_within : (s : ℕ) → s < m → IsPolynomialWithin n m (large 0 1) (parameter_of 64 s)
+  parameter_within s h =
+      all_single (IsKeyWithin n m (large 0 1)) (record { exponents = slice_set (replicate 64 0) s 1; rows = [] })
+      (record {
+        points = tt;
+        exponents = record {
+          parameters = λ j g. others 64 s j (omega arith);
+          small = all_set (λ e. e ≤ 1) (replicate 64 0) s 1 (omega arith) (all_replicate (λ e. e ≤ 1) 64 0 (omega arith));
+        };
+        few = omega arith;
+      })
+    where
+      none : (k j : ℕ) → get_or (replicate {A = ℕ} k 0) j 0 ≡ 0
+      none zero j = refl
+      none (suc k) zero = refl
+      none (suc k) (suc j) = none k j
+
+      others : (k s j : ℕ) → s < j → get_or (slice_set (replicate {A = ℕ} k 0) s 1) j 0 ≡ 0
+      others zero s j l = refl
+      others (suc k) zero zero l = absurd (omega arith)
+      others (suc k) zero (suc j) l = none k j
+      others (suc k) (suc s) zero l = refl
+      others (suc k) (suc s) (suc j) l = others k s j (omega arith)
+
+  scaled_within : (A C : Measure) (f : BracketPolynomial) → IsPolynomialWithin n m (large 0 1) f → A.rows ≤ C.rows
+      → A.degree + 1 ≤ C.degree → (V : Value) → AllByRecursion (IsEntryWithin n m A) V
+      → AllByRecursion (IsProductWithin n m C) (map (scaled_product f) V)
+  scaled_within A C f small rows degree V p =
+      all_map (IsEntryWithin n m A) (IsProductWithin n m C) (scaled_product f)
+      (λ e h. record {
+        extensor = h.points;
+        terms =
+            product_within A (large 0 1) C 0 (scaled_product f e) h.keys small no_row (omega arith) (omega arith);
+      }) V p
+
+  pub mixed_within : (A B : Measure) (s t : ℕ) → s < m → t < m → (V W : Value) → AllByRecursion (IsEntryWithin n m A) V
+      → AllByRecursion (IsEntryWithin n m B) W
+      → AllByRecursion (IsProductWithin n m (on_measure A B)) (on_products (parameter_of 64 s) (parameter_of 64 t) V W)
+  mixed_within A B s t k l V W p q =
+      all_append (IsProductWithin n m (on_measure A B)) (map (scaled_product (parameter_of 64 s)) V)
+      (map (scaled_product (parameter_of 64 t)) W)
+      (scaled_within A (on_measure A B) (parameter_of 64 s) (parameter_within s k) (omega arith) (omega arith) V p)
+      (scaled_within B (on_measure A B) (parameter_of 64 t) (parameter_within t l) (omega arith) (omega arith) W q)
 
   -- ---- keys and uses like a key
 

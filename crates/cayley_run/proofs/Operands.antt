@@ -1,21 +1,25 @@
 -- The values that an instruction names, in the code and in the log.
 use Rattle.std.proofs.Common.{◌≡◌, ℕ, zero, suc, ◌+◌, ◌-◌, ◌<◌, ◌≤◌, List, [], ◌∷◌, map, length, get_or, sym, ap, ap₂}
-use Rattle.std.proofs.Common.{subst, ◌∙◌, arith}
+use Rattle.std.proofs.Common.{subst, ◌∙◌, arith, replicate, slice_set}
 use Rattle.std.proofs.lemmas.List.{length-map}
 use Rattle.std.specs.Prelude.{Result, OnOk}
 use Rattle.std.specs.List.{AllByRecursion}
-use Rattle.coordinate_model.specs.Starts.{Entry, Product, join_products, meet_products}
+use Rattle.coordinate_model.specs.BracketPolynomial.{parameter_of}
+use Rattle.coordinate_model.specs.Starts.{Entry, Product, join_products, meet_products, on_products}
 use Rattle.coordinate_model.specs.Value as model
+use Rattle.coordinate_model.proofs.KeySets.{all_single}
+use Rattle.coordinate_model.proofs.Splits.{all_so}
 use Rattle.bracket_poly.specs.Products.{HasDegree, ExponentsFit}
 use Rattle.bracket_poly.specs.Values.{value_of}
 use Rattle.bracket_poly.specs.declared.value.Value.{Value}
 use Rattle.bracket_poly.proofs.Degrees.{exponents_fit}
 use Rattle.cayley_terms.specs.declared.instr.Instr.{Instr}
-use Rattle.cayley_terms.specs.declared.instr.Instr.TheVariants.{Join, Meet}
+use Rattle.cayley_terms.specs.declared.instr.Instr.TheVariants.{Join, Meet, On}
 use Rattle.cayley_terms.specs.Starts.{value_at, products_of}
 use Rattle.cayley_terms.specs.Starts as operation
-use Rattle.shuffle_meet.specs.Objects.{AreJoined, AreMet}
-use Rattle.cayley_run.specs.Ready.{IsOperand, step_at, ArePair, IsJoin, IsMeet, Makes, IsReady}
+use Rattle.shuffle_meet.specs.Objects.{AreJoined, AreMet, AreMixed}
+use Rattle.shuffle_meet.proofs.SizeLaws.{all_set, all_replicate}
+use Rattle.cayley_run.specs.Ready.{IsOperand, step_at, ArePair, IsJoin, IsMeet, IsMixed, Makes, IsReady}
 use Rattle.cayley_run.specs.Runs.{Log, with_object, with_instr}
 use Rattle.cayley_run.specs.Seen.{log_of, steps_of}
 use Rattle.cayley_run.specs.declared.progress.Progress.{Progress}
@@ -56,6 +60,18 @@ fit_one e (f ∷ B) h k = (exponents_fit 1000 1000 e.1 f.1 (omega arith) h k.0, 
 pub fit_all : (A B : model.Value) → IsSmall A → IsSmall B → AllByRecursion (λ e. AllByRecursion (λ f. ExponentsFit e.1 f.1) B) A
 fit_all [] B h k = tt
 fit_all (e ∷ A) B h k = (fit_one e B h.0 k, fit_all A B h.1 k)
+
+-- and those of an entry and a parameter
+pub fit_parameter : (s : ℕ) (A : model.Value) → IsSmall A → AllByRecursion (λ e. ExponentsFit e.1 (parameter_of 64 s)) A
+fit_parameter s A h =
+    all_so (λ e. HasDegree 1000 e.1) (λ e. ExponentsFit e.1 (parameter_of 64 s))
+    (λ e k. exponents_fit 1000 1 e.1 (parameter_of 64 s) (omega arith) k small) A h
+  where
+    small : HasDegree 1 (parameter_of 64 s)
+    small =
+        all_single (λ k. AllByRecursion (λ e. e ≤ 1) k.exponents)
+        (record { exponents = slice_set (replicate 64 0) s 1; rows = [] })
+        (all_set (λ e. e ≤ 1) (replicate 64 0) s 1 (omega arith) (all_replicate (λ e. e ≤ 1) 64 0 (omega arith)))
 
 -- the values that a join or a meet names may be joined or may meet, and have small products
 module _ {d : ℕ} (p : Progress d) (a b : ℕ) (x y : Value d) (first : x ≡ get_or p.values.items a x)
@@ -109,32 +125,29 @@ module _ {d : ℕ} (p : Progress d) (a b : ℕ) (x y : Value d) (first : x ≡ g
         many = subst (λ n. d ≤ n) (ap₂ ◌+◌ i j) h.many;
       }
 
-  pub step_of_join : (step : ℕ) → IsJoin d (steps_of p) (log_of p) a b step → x.step + y.step ≡ step
-  step_of_join step h = sym (h.step ∙ ap₂ ◌+◌ (step_first h.pair.first) (step_second h.pair.second))
+  pub are_mixed : (s t step : ℕ) → IsMixed d (steps_of p) (log_of p) a b s t step → AreMixed x.step y.step
+  are_mixed s t step h = record {
+    first = sym (step_first h.pair.first) ∙ h.first;
+    second = sym (step_second h.pair.second) ∙ h.second;
+  }
 
-  pub step_of_meet : (step : ℕ) → IsMeet d (steps_of p) (log_of p) a b step → x.step + y.step - d ≡ step
-  step_of_meet step h = sym (h.step ∙ ap₂ (λ m n. m + n - d) (step_first h.pair.first) (step_second h.pair.second))
+  pub first_fits : (s : ℕ) (ps : List Product) → ArePair d (steps_of p) a b ps → AllByRecursion IsSmall (log_of p).values
+      → AllByRecursion (λ e. ExponentsFit e.1 (parameter_of 64 s)) (said x)
+  first_fits s ps h all = fit_parameter s (said x) (small_there values a x (within a h.first) first all)
+
+  pub second_fits : (t : ℕ) (ps : List Product) → ArePair d (steps_of p) a b ps → AllByRecursion IsSmall (log_of p).values
+      → AllByRecursion (λ e. ExponentsFit e.1 (parameter_of 64 t)) (said y)
+  second_fits t ps h all = fit_parameter t (said y) (small_there values b y (within b h.second) second all)
 
   pub joined-same : (ps : List Product) → ArePair d (steps_of p) a b ps
       → join_products d (said x) (said y) ≡ products_of operation.Join d (log_of p).values a b
   joined-same ps h = ap₂ (join_products d) (values_first h.first) (values_second h.second)
 
-  pub met-same : (ps : List Product) → ArePair d (steps_of p) a b ps
-      → meet_products d (said x) (said y) ≡ products_of operation.Meet d (log_of p).values a b
-  met-same ps h = ap₂ (meet_products d) (values_first h.first) (values_second h.second)
-
--- the log behind a join and a meet
+-- the log behind a join
 pub log_of_join : {X E : Type 0} (d : ℕ) (result : Result X E) (new old : Log) (instr : Instr) (a b step : ℕ)
     (ps : List Product) → instr ≡ Join a b → ps ≡ products_of operation.Join d old.values a b
     → OnOk result (new ≡ with_object d step ps old) → OnOk result (new ≡ with_instr d old (instr, step))
 log_of_join d result new old instr a b step ps is same h =
-    subst (λ (i : Instr). OnOk result (new ≡ with_instr d old (i, step))) (sym is)
-    (subst (λ qs. OnOk result (new ≡ with_object d step qs old)) same h)
-
-pub log_of_meet : {X E : Type 0} (d : ℕ) (result : Result X E) (new old : Log) (instr : Instr) (a b step : ℕ)
-    (ps : List Product) → instr ≡ Meet a b → ps ≡ products_of operation.Meet d old.values a b
-    → OnOk result (new ≡ with_object d step ps old) → OnOk result (new ≡ with_instr d old (instr, step))
-log_of_meet d result new old instr a b step ps is same h =
     subst (λ (i : Instr). OnOk result (new ≡ with_instr d old (i, step))) (sym is)
     (subst (λ qs. OnOk result (new ≡ with_object d step qs old)) same h)
 
@@ -146,3 +159,7 @@ makes_join d steps log instr a b step h e = subst (λ i. Makes d steps log i ste
 pub makes_meet : (d : ℕ) (steps : List ℕ) (log : Log) (instr : Instr) (a b step : ℕ) → IsReady d steps log instr step
     → instr ≡ Meet a b → IsMeet d steps log a b step
 makes_meet d steps log instr a b step h e = subst (λ i. Makes d steps log i step) e h.makes
+
+pub makes_mixed : (d : ℕ) (steps : List ℕ) (log : Log) (instr : Instr) (a b s t step : ℕ)
+    → IsReady d steps log instr step → instr ≡ On a b s t → IsMixed d steps log a b s t step
+makes_mixed d steps log instr a b s t step h e = subst (λ i. Makes d steps log i step) e h.makes

@@ -5,7 +5,8 @@ use Rattle.std.specs.Prelude.{Option, Some, None}
 use Rattle.std.specs.List.{AllByRecursion}
 use Rattle.std.proofs.Math.Seq.{get_or-append_seam}
 use Rattle.coordinate_model.specs.Sequences.{IsRank}
-use Rattle.coordinate_model.specs.Starts.{Product, join_products, meet_products}
+use Rattle.coordinate_model.specs.Starts.{Product, join_products, meet_products, on_products}
+use Rattle.coordinate_model.specs.BracketPolynomial.{parameter_of}
 use Rattle.coordinate_model.specs.Value.{Value}
 use Rattle.coordinate_model.proofs.Hom.{map-append}
 use Rattle.coordinate_model.proofs.KeySets.{all_single}
@@ -20,7 +21,7 @@ use Rattle.shuffle_meet.specs.Stops.{first_stop}
 use Rattle.straightening.specs.Runs.{Stop, limit_stop}
 use Rattle.cayley_terms.specs.declared.instr.Instr.{Instr}
 use Rattle.cayley_terms.specs.declared.instr.Instr.TheVariants.{Free, Join, Meet, On, Conic}
-use Rattle.cayley_terms.specs.Instrs.{instr_measure, join_measure, meet_measure}
+use Rattle.cayley_terms.specs.Instrs.{measure_at, instr_measure, join_measure, meet_measure, on_measure}
 use Rattle.cayley_terms.specs.Kept.{IsNamed}
 use Rattle.cayley_terms.specs.Programs.{NamesEarlier, EndsInOne, IsInner, IsLast, steps_together}
 use Rattle.cayley_terms.specs.Starts.{one_of, free_value}
@@ -29,11 +30,11 @@ use Rattle.cayley_run.specs.Runs.{Log, at_start, with_sections, with_object, wit
 use Rattle.cayley_run.specs.RunLaws.{AllEndWell}
 use Rattle.cayley_run.specs.Bounds.{HasNumbers, IsKeyWithin, IsSectionWithin, object_measures, AreWithin}
 use Rattle.cayley_run.specs.Bounds.{RunIsWithin}
-use Rattle.cayley_run.proofs.KeyBounds.{IsEntryWithin, IsProductWithin, joins_within, meets_within}
+use Rattle.cayley_run.proofs.KeyBounds.{IsEntryWithin, IsProductWithin, joins_within, meets_within, mixed_within}
 use Rattle.cayley_run.proofs.SectionBounds.{starts_within, value_within, section_starts_within}
 use Rattle.cayley_run.proofs.ObjectLaws.{starts-are}
 use Rattle.cayley_run.proofs.InstrLaws.{Made, measures_of, values_of, IsMade, Adds, made_at, holds_at}
-use Rattle.cayley_run.proofs.InstrLaws.{join_work, meet_work, made_of, inner_instr}
+use Rattle.cayley_run.proofs.InstrLaws.{join_work, meet_work, on_work, made_of, inner_instr}
 use Rattle.cayley_run.proofs.RunMeaning.{new_behind, made-new, with_steps, stopped, goes_on}
 
 -- ---- objects
@@ -84,21 +85,22 @@ abbrev pub Fits : ℕ → List Measure → Instr → Type 0
 Fits d before (Free i) = Unit {0}
 Fits d before (Join a b) = steps_together before a b ≤ d
 Fits d before (Meet a b) = d ≤ steps_together before a b
-Fits d before (On a b s t) = Unit {0}
+Fits d before (On a b s t) =
+    ((measure_at before a).step ≡ 1) × ((measure_at before b).step ≡ 1) × (s < 64) × (t < 64)
 Fits d before (Conic p1 p2 p3 p4 p5 p6) = Unit {0}
 
 pub inner_fits : (d : ℕ) (before : List Measure) (instr : Instr) → IsInner d before instr → Fits d before instr
 inner_fits d before (Free i) h = tt
 inner_fits d before (Join a b) h = let s : steps_together before a b < d = h.steps in omega arith
 inner_fits d before (Meet a b) h = let s : d < steps_together before a b = h.steps in omega arith
-inner_fits d before (On a b s t) h = tt
+inner_fits d before (On a b s t) h = h.steps
 inner_fits d before (Conic p1 p2 p3 p4 p5 p6) h = tt
 
 pub last_fits : (d : ℕ) (before : List Measure) (instr : Instr) → IsLast d before instr → Fits d before instr
 last_fits d before (Free i) h = tt
 last_fits d before (Join a b) h = let s : steps_together before a b ≡ d = h.steps in omega arith
 last_fits d before (Meet a b) h = let s : steps_together before a b ≡ d = h.steps in omega arith
-last_fits d before (On a b s t) h = tt
+last_fits d before (On a b s t) h = absurd h.steps
 last_fits d before (Conic p1 p2 p3 p4 p5 p6) h = tt
 
 -- a value within the bounds of its measure
@@ -203,7 +205,15 @@ module _ (n m d : ℕ) (rank : IsRank d) (made : List Made) (log : Log) (all : A
       (adds_object n m (meet_measure d (at a).measure (at b).measure) d ((at a).figure.step + (at b).figure.step - d)
       ((at a).measure.step + (at b).measure.step - d) rank (meet_products d (at a).value (at b).value) w.sized w.none
       (meets_within n m d (at a).measure (at b).measure (at a).value (at b).value (within_at a h.0) (within_at b h.1.0)) log)
-  instr_within (On a b s t) r c h f = absurd r
+  instr_within (On a b s t) r c h f =
+      let x : IsMade d (at a) = is_at a h.0 in
+      let y : IsMade d (at b) = is_at b h.1.0 in
+      let products = on_products (parameter_of 64 s) (parameter_of 64 t) (at a).value (at b).value in
+      let w = on_work d rank (at a) (at b) x y s t f.2 f.3 (sym x.step ∙ f.0) (sym y.step ∙ f.1) in
+      one_object (On a b s t) (on_measure (at a).measure (at b).measure) (with_object d 1 products log) refl
+      (adds_object n m (on_measure (at a).measure (at b).measure) d 1 1 rank products w.sized w.none
+      (mixed_within n m (at a).measure (at b).measure s t c.0 c.1 (at a).value (at b).value (within_at a h.0)
+      (within_at b h.1.0)) log)
   instr_within (Conic p1 p2 p3 p4 p5 p6) r c h f = absurd r
 
 -- ---- runs

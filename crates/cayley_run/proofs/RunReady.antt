@@ -5,8 +5,8 @@ use Rattle.std.proofs.lemmas.List.{length-map}
 use Rattle.std.specs.Prelude.{None}
 use Rattle.std.specs.List.{AllByRecursion}
 use Rattle.coordinate_model.specs.Sequences.{IsRank}
-use Rattle.coordinate_model.specs.BracketPolynomial.{BracketPolynomial}
-use Rattle.coordinate_model.specs.Starts.{Product, join_products, meet_products}
+use Rattle.coordinate_model.specs.BracketPolynomial.{BracketPolynomial, parameter_of}
+use Rattle.coordinate_model.specs.Starts.{Product, join_products, meet_products, on_products}
 use Rattle.coordinate_model.specs.Value.{Value}
 use Rattle.coordinate_model.proofs.Hom.{map-append}
 use Rattle.coordinate_model.proofs.Splits.{all_so, all_both, all_map, all_append}
@@ -17,14 +17,14 @@ use Rattle.shuffle_meet.specs.Stops.{tracked_entries}
 use Rattle.cayley_terms.specs.declared.instr.Instr.{Instr}
 use Rattle.cayley_terms.specs.declared.instr.Instr.TheVariants.{Free, Join, Meet, On, Conic}
 use Rattle.cayley_terms.specs.declared.program.Program.{Program}
-use Rattle.cayley_terms.specs.Instrs.{no_measure, instr_measure, join_measure, meet_measure}
+use Rattle.cayley_terms.specs.Instrs.{no_measure, instr_measure, join_measure, meet_measure, on_measure}
 use Rattle.cayley_terms.specs.Programs.{NamesEarlier, EndsInOne, IsInner, IsLast}
 use Rattle.cayley_run.specs.Runs.{Log, at_start, with_instr, IsRun}
 use Rattle.cayley_run.specs.RunLaws.{AllEndWell}
 use Rattle.cayley_run.specs.Bounds.{HasNumbers, IsKeyWithin, IsPolynomialWithin, object_measures}
 use Rattle.cayley_run.specs.Ready.{AreSmall, IsOperand, step_at, Makes, IsReady}
 use Rattle.cayley_run.proofs.InstrLaws.{Made, measures_of, values_of, IsMade, Adds, made_of, inner_instr}
-use Rattle.cayley_run.proofs.KeyBounds.{IsEntryWithin, IsProductWithin, joins_within, meets_within}
+use Rattle.cayley_run.proofs.KeyBounds.{IsEntryWithin, IsProductWithin, joins_within, meets_within, mixed_within}
 use Rattle.cayley_run.proofs.Operands.{IsSmall}
 use Rattle.cayley_run.proofs.RunBounds.{Fits, inner_fits, last_fits, IsMadeWithin, GrowsByOne, at, is_at, within_at, sized_at}
 use Rattle.cayley_run.proofs.RunBounds.{instr_within}
@@ -153,7 +153,23 @@ module _ (d : ℕ) (rank : IsRank d) (log : Log) (steps : List ℕ) (instr : Ins
     many = subst (λ k. d ≤ k) (sym (ap₂ ◌+◌ (step_there a) (step_there b))) n.fits;
     step = e ∙ sym (ap₂ (λ i j. i + j - d) (step_there a) (step_there b));
   }
-  makes (On a b s t) r n e = absurd r
+  makes (On a b s t) r n e = record {
+    pair = record {
+      first = operand a n.earlier.0;
+      second = operand b n.earlier.1.0;
+      small =
+          starts_small 200 64 (on_measure (there a).measure (there b).measure)
+          (on_products (parameter_of 64 s) (parameter_of 64 t) (there a).value (there b).value) n.degree
+          (mixed_within 200 64 (there a).measure (there b).measure s t n.fits.2 n.fits.3 (there a).value (there b).value
+          (within_at 200 64 d rank made log w.all w.within w.values a n.earlier.0)
+          (within_at 200 64 d rank made log w.all w.within w.values b n.earlier.1.0));
+    };
+    first = step_there a ∙ n.fits.0;
+    second = step_there b ∙ n.fits.1;
+    first_parameter = n.fits.2;
+    second_parameter = n.fits.3;
+    step = e;
+  }
   makes (Conic p1 p2 p3 p4 p5 p6) r n e = absurd r
 
   -- the next instruction can be run
@@ -263,7 +279,7 @@ numbers_of d before (instr ∷ []) h r = (last_number instr h r.0, tt)
     last_number (Free i) h r = absurd h.steps
     last_number (Join a b) h r = tt
     last_number (Meet a b) h r = tt
-    last_number (On a b s t) h r = absurd r
+    last_number (On a b s t) h r = absurd h.steps
     last_number (Conic p1 p2 p3 p4 p5 p6) h r = absurd r
 numbers_of d before (instr ∷ next ∷ instrs) h r =
     (number instr h.0 r.0, numbers_of d (before ++ instr_measure d before instr ∷ []) (next ∷ instrs) h.1 r.1)
@@ -272,7 +288,7 @@ numbers_of d before (instr ∷ next ∷ instrs) h r =
     number (Free i) h r = h.steps
     number (Join a b) h r = tt
     number (Meet a b) h r = tt
-    number (On a b s t) h r = absurd r
+    number (On a b s t) h r = (h.steps.2, h.steps.3)
     number (Conic p1 p2 p3 p4 p5 p6) h r = absurd r
 
 pub begins : (budget : ℕ) (p : Program) → AllByRecursion IsRun p.instrs

@@ -47,12 +47,21 @@ pub record IsMeet (d : ℕ) (steps : List ℕ) (log : Log) (a b made : ℕ) : Ty
   pub many : d ≤ step_at steps a + step_at steps b
   pub step : made ≡ step_at steps a + step_at steps b - d
 
+-- two points, of which one is made by the parameters s and t
+pub record IsMixed (d : ℕ) (steps : List ℕ) (log : Log) (a b s t made : ℕ) : Type 0 where
+  pub pair : ArePair d steps a b (products_of (operation.On s t) d log.values a b)
+  pub first : step_at steps a ≡ 1
+  pub second : step_at steps b ≡ 1
+  pub first_parameter : s < 64
+  pub second_parameter : t < 64
+  pub step : made ≡ 1
+
 -- the instruction makes something of this step
 abbrev pub Makes : ℕ → List ℕ → Log → Instr → ℕ → Type 0
 Makes d steps log (Free i) step = step ≡ 1
 Makes d steps log (Join a b) step = IsJoin d steps log a b step
 Makes d steps log (Meet a b) step = IsMeet d steps log a b step
-Makes d steps log (On a b s t) step = ⊥
+Makes d steps log (On a b s t) step = IsMixed d steps log a b s t step
 Makes d steps log (Conic p1 p2 p3 p4 p5 p6) step = ⊥
 
 -- the instruction can be run behind values of these steps

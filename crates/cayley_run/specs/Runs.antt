@@ -54,7 +54,7 @@ abbrev pub with_instr : ℕ → Log → Instr × ℕ → Log
 with_instr d log (Free i, step) = with_free i log
 with_instr d log (Join a b, step) = with_object d step (products_of operation.Join d log.values a b) log
 with_instr d log (Meet a b, step) = with_object d step (products_of operation.Meet d log.values a b) log
-with_instr d log (On a b s t, step) = log
+with_instr d log (On a b s t, step) = with_object d step (products_of (operation.On s t) d log.values a b) log
 with_instr d log (Conic p1 p2 p3 p4 p5 p6, step) = log
 
 -- the run goes on with these instructions, each with its step, unless it has stopped
@@ -71,5 +71,5 @@ abbrev pub IsRun : Instr → Type 0
 IsRun (Free i) = Unit {0}
 IsRun (Join a b) = Unit {0}
 IsRun (Meet a b) = Unit {0}
-IsRun (On a b s t) = ⊥
+IsRun (On a b s t) = Unit {0}
 IsRun (Conic p1 p2 p3 p4 p5 p6) = ⊥

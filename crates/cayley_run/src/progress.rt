@@ -20,7 +20,7 @@ use bracket_poly::{Items, ObjectLog, Poly, PolyError, Value};
 use bracket_terms::Extensor;
 use cay_base::NoMemory;
 use cayley_terms::Instr;
-use shuffle_meet::{join, meet};
+use shuffle_meet::{join, meet, on};
 use std::alloc::Global;
 
 /// What a run has done: the value of each instruction, the objects that were worked out, the turns that are left, and what
@@ -76,7 +76,17 @@ impl<const D: usize> Progress<D> {
                 );
                 self.object(step, starts)
             }
-            Instr::On { .. } | Instr::Conic { .. } => unreachable!(),
+            Instr::On { a, b, s, t } => {
+                let starts = on(
+                    self.alloc,
+                    &self.values[a as usize],
+                    &self.values[b as usize],
+                    s,
+                    t,
+                );
+                self.object(step, starts)
+            }
+            Instr::Conic { .. } => unreachable!(),
         }
     }
 

@@ -15,7 +15,7 @@ use Rattle.cayley_terms.specs.Figures.{Figure, joined, met, from_left}
 use Rattle.cayley_terms.specs.Meaning.{Frame, object_figure, claim_figure}
 use Rattle.cayley_terms.specs.Straight.{Lowered, objects_lowered, from_left_lowered, claim_lowered}
 use Rattle.cayley_terms.specs.Built.{is_built_claim}
-use Rattle.cayley_terms.proofs.Measured.{some_then, at_step}
+use Rattle.cayley_terms.proofs.Measured.{some_then, some_same, at_step}
 use Rattle.cayley_terms.proofs.Sound.{keeps_on, IsSound}
 use Rattle.cayley_terms.proofs.Objects.{AreTied}
 use Rattle.cayley_terms.proofs.Chains.{steps_in, rows_in, degrees_in, AreMeasured, AreAt, makes_objects, Concludes, joins_conclude, meets_conclude}
@@ -28,9 +28,6 @@ pub record HasParts (d : ℕ) (made : List (List ℕ × Measure)) (step : ℕ) (
   pub rows_are : rows_in all ≡ rows
   pub degree_is : degrees_in all ≡ degree
   pub count : length all ≡ length os
-
-some_same : {A : Type 0} (x y : A) → Some x ≡ Some y → x ≡ y
-some_same x y e = cc
 
 pub total_parts : (d : ℕ) (made : List (List ℕ × Measure)) (step : ℕ) (os : List Object) (m : Measure)
     → total d made step os ≡ Some m → HasParts d made step os m.rows m.degree
@@ -117,9 +114,9 @@ planes_of : (d step : ℕ) (all : List Measure) → step + 1 ≡ d → AllByRecu
 planes_of d step [] same steps = tt
 planes_of d step (m ∷ all) same steps = (let one = steps.0 in omega arith, planes_of d step all same steps.1)
 
-module _ (F : Frame) (d : ℕ) where
+module _ (F : Frame) (d used : ℕ) where
   same_length : (instrs : List Instr) (ns : List ℕ) (all : List Measure) (xs : List (Figure F.ring))
-      → AreAt F d instrs ns all xs → length ns ≡ length all
+      → AreAt F d used instrs ns all xs → length ns ≡ length all
   same_length instrs [] [] [] each = refl
   same_length instrs [] [] (x ∷ xs) each = absurd each
   same_length instrs [] (m ∷ all) xs each = absurd each
@@ -128,9 +125,9 @@ module _ (F : Frame) (d : ℕ) where
   same_length instrs (n ∷ ns) (m ∷ all) (x ∷ xs) each = let e = same_length instrs ns all xs each.1 in omega arith
 
   joins_from_left : (line : ℕ) (s : Lowered) (fs : List (ℕ × Figure F.ring)) (ms : List (ℕ × Measure)) (ns : List ℕ)
-      (all : List Measure) (xs : List (Figure F.ring)) → IsSound F d s fs ms → AreAt F d s.instrs ns all xs
+      (all : List Measure) (xs : List (Figure F.ring)) → IsSound F d used s fs ms → AreAt F d used s.instrs ns all xs
       → 2 ≤ length all → steps_in all ≡ d → rows_in all + 1 ≤ 64 → degrees_in all ≤ 1000
-      → Concludes F d s fs ms (from_left_lowered instr.Join line ns s).0 (from_left F.ring (joined F.ring) xs)
+      → Concludes F d used s fs ms (from_left_lowered instr.Join line ns s).0 (from_left F.ring (joined F.ring) xs)
       (length all)
   joins_from_left line s fs ms [] [] xs sound each two steps rows degree = absurd (omega arith)
   joins_from_left line s fs ms [] (m ∷ all) xs sound each two steps rows degree = absurd each
@@ -138,15 +135,15 @@ module _ (F : Frame) (d : ℕ) where
   joins_from_left line s fs ms (n ∷ ns) (m ∷ all) [] sound each two steps rows degree = absurd each
   joins_from_left line s fs ms (n ∷ ns) (m ∷ all) (x ∷ xs) sound each two steps rows degree =
       let same = same_length s.instrs ns all xs each.1 in
-      let r = joins_conclude F d line s fs ms n m x ns all xs sound each.0 each.1 (omega arith) (omega arith) (omega arith)
+      let r = joins_conclude F d used line s fs ms n m x ns all xs sound each.0 each.1 (omega arith) (omega arith) (omega arith)
       (omega arith) in
       record { ended = r.ended; keeps = r.keeps; few = let f = r.few in omega arith }
 
   meets_from_left : (line : ℕ) (s : Lowered) (fs : List (ℕ × Figure F.ring)) (ms : List (ℕ × Measure)) (ns : List ℕ)
-      (all : List Measure) (xs : List (Figure F.ring)) → IsSound F d s fs ms → AreAt F d s.instrs ns all xs
+      (all : List Measure) (xs : List (Figure F.ring)) → IsSound F d used s fs ms → AreAt F d used s.instrs ns all xs
       → 2 ≤ length all → length all ≡ d → AllByRecursion (λ m. m.step + 1 ≡ d) all
       → rows_in all + (length all - 1) ≤ 64 → degrees_in all ≤ 1000
-      → Concludes F d s fs ms (from_left_lowered instr.Meet line ns s).0 (from_left F.ring (met F.ring d) xs)
+      → Concludes F d used s fs ms (from_left_lowered instr.Meet line ns s).0 (from_left F.ring (met F.ring d) xs)
       (length all)
   meets_from_left line s fs ms [] [] xs sound each two count planes rows degree = absurd (omega arith)
   meets_from_left line s fs ms [] (m ∷ all) xs sound each two count planes rows degree = absurd each
@@ -155,22 +152,22 @@ module _ (F : Frame) (d : ℕ) where
   meets_from_left line s fs ms (n ∷ ns) (m ∷ all) (x ∷ xs) sound each two count planes rows degree =
       let same = same_length s.instrs ns all xs each.1 in
       let plane = planes.0 in
-      let r = meets_conclude F d line s fs ms n m x ns all xs sound each.0 each.1 (omega arith) (omega arith) planes.1
+      let r = meets_conclude F d used line s fs ms n m x ns all xs sound each.0 each.1 (omega arith) (omega arith) planes.1
       (omega arith) (omega arith) in
       record { ended = r.ended; keeps = r.keeps; few = let f = r.few in omega arith }
 
   module _ (made : List (List ℕ × Measure)) (objects : List (List ℕ × Figure F.ring)) (fs : List (ℕ × Figure F.ring))
       (ms : List (ℕ × Measure)) (low : d ≤ 4) where
     -- objects, and behind them their joins from the left
-    pub joins_claim : (line : ℕ) (os : List Object) (s : Lowered) (all : List Measure) → IsSound F d s fs ms
-        → AreTied F d s.instrs s.numbers made objects → AreMeasured d made os all → 2 ≤ length all → length all ≤ 6
+    pub joins_claim : (line : ℕ) (os : List Object) (s : Lowered) (all : List Measure) → IsSound F d used s fs ms
+        → AreTied F d used s.instrs s.numbers made objects → AreMeasured d made os all → 2 ≤ length all → length all ≤ 6
         → steps_in all ≡ d → rows_in all + 1 ≤ 64 → degrees_in all ≤ 1000
-        → Concludes F d s fs ms
+        → Concludes F d used s fs ms
         (let r = objects_lowered line os s in from_left_lowered instr.Join line r.1 r.0).0
         (from_left F.ring (joined F.ring) (map (object_figure F d objects) os)) 300
     joins_claim line os s all sound tied measured two six steps rows degree =
         let r = objects_lowered line os s in
-        let parts = makes_objects F d made objects fs ms low line os s all sound tied measured (omega arith) degree in
+        let parts = makes_objects F d used made objects fs ms low line os s all sound tied measured (omega arith) degree in
         let whole = joins_from_left line r.0 fs ms r.1 all (map (object_figure F d objects) os) parts.sound parts.each two
         steps rows degree in
         record {
@@ -180,15 +177,15 @@ module _ (F : Frame) (d : ℕ) where
         }
 
     -- and their meets from the left
-    pub meets_claim : (line : ℕ) (os : List Object) (s : Lowered) (all : List Measure) → IsSound F d s fs ms
-        → AreTied F d s.instrs s.numbers made objects → AreMeasured d made os all → 2 ≤ length all → length all ≡ d
+    pub meets_claim : (line : ℕ) (os : List Object) (s : Lowered) (all : List Measure) → IsSound F d used s fs ms
+        → AreTied F d used s.instrs s.numbers made objects → AreMeasured d made os all → 2 ≤ length all → length all ≡ d
         → AllByRecursion (λ m. m.step + 1 ≡ d) all → rows_in all + (length all - 1) ≤ 64 → degrees_in all ≤ 1000
-        → Concludes F d s fs ms
+        → Concludes F d used s fs ms
         (let r = objects_lowered line os s in from_left_lowered instr.Meet line r.1 r.0).0
         (from_left F.ring (met F.ring d) (map (object_figure F d objects) os)) 300
     meets_claim line os s all sound tied measured two count planes rows degree =
         let r = objects_lowered line os s in
-        let parts = makes_objects F d made objects fs ms low line os s all sound tied measured (omega arith) degree in
+        let parts = makes_objects F d used made objects fs ms low line os s all sound tied measured (omega arith) degree in
         let whole = meets_from_left line r.0 fs ms r.1 all (map (object_figure F d objects) os) parts.sound parts.each two
         count planes rows degree in
         let steps = planes_low d all low planes in
@@ -199,10 +196,10 @@ module _ (F : Frame) (d : ℕ) where
         }
 
     -- a join of objects of one step, which make up the rank together
-    alike_claim : (line step : ℕ) (os : List Object) (s : Lowered) (rows degree : ℕ) → IsSound F d s fs ms
-        → AreTied F d s.instrs s.numbers made objects → HasParts d made step os rows degree → 2 ≤ length os
+    alike_claim : (line step : ℕ) (os : List Object) (s : Lowered) (rows degree : ℕ) → IsSound F d used s fs ms
+        → AreTied F d used s.instrs s.numbers made objects → HasParts d made step os rows degree → 2 ≤ length os
         → length os ≤ 6 → length os * step ≡ d → rows + 1 ≤ 64 → degree ≤ 1000
-        → Concludes F d s fs ms
+        → Concludes F d used s fs ms
         (let r = objects_lowered line os s in from_left_lowered instr.Join line r.1 r.0).0
         (from_left F.ring (joined F.ring) (map (object_figure F d objects) os)) 300
     alike_claim line step os s rows degree sound tied parts two six whole many large =
@@ -213,10 +210,10 @@ module _ (F : Frame) (d : ℕ) where
         (steps_alike step parts.all parts.steps ∙ ap (λ n. n * step) count ∙ whole) (omega arith) (omega arith)
 
     -- a claim that is lowered so far
-    pub concludes_claim : 2 ≤ d → (line : ℕ) (claim : Claim) (s : Lowered) (m : Measure) → IsSound F d s fs ms
-        → AreTied F d s.instrs s.numbers made objects → IsClaim claim → claim_fits d claim ≡ true
+    pub concludes_claim : 2 ≤ d → (line : ℕ) (claim : Claim) (s : Lowered) (m : Measure) → IsSound F d used s fs ms
+        → AreTied F d used s.instrs s.numbers made objects → IsClaim claim → claim_fits d claim ≡ true
         → IsTrue (is_built_claim claim) → claim_measure d made claim ≡ Some m → m.rows ≤ 64 → m.degree ≤ 1000
-        → Concludes F d s fs ms (claim_lowered line claim s).0 (claim_figure F d objects claim) 300
+        → Concludes F d used s fs ms (claim_lowered line claim s).0 (claim_figure F d objects claim) 300
     unfolding claim_measure claim_lowered
     concludes_claim least line (Claim.Collinear args) s m sound tied formed fits built e rows degree =
         let sum = some_then (total d made 1 args) _ m e in

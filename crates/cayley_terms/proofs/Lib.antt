@@ -2,6 +2,8 @@ pub mod Names
 pub mod Growth
 pub mod ObjectSteps
 pub mod StatementSteps
+pub mod PascalSteps
+pub mod Params
 pub mod BuiltLaws
 pub mod Made
 pub mod Inner
@@ -11,6 +13,8 @@ pub mod Objects
 pub mod Chains
 pub mod Claims
 pub mod Rows
+pub mod PascalRows
+pub mod Definitions
 pub mod Whole
 pub mod ProgramLaws
 pub mod StepLists

@@ -1,12 +1,13 @@
 -- What it says that the step rules give a measure.
 use Rattle.std.proofs.Common.{◌≡◌, ℕ, ◌+◌, ◌-◌, ◌<◌, Bool, true, false, cond, List, Option, None, Some, sym, ap, ◌∙◌, refl, nat_lt}
-use Rattle.std.specs.Prelude.{◌==◌}
+use Rattle.std.specs.Prelude.{◌==◌, ◌&&◌}
 use Rattle.std.proofs.lemmas.Bool.{ltb-true, eqb-true}
 use Rattle.construction_reader.specs.Said.{Object}
 use Rattle.step_types.specs.declared.measure.Measure.{Measure}
 use Rattle.step_types.specs.Outcome.{◌>>=◌}
-use Rattle.step_types.specs.Measures.{joined, met, of_step}
+use Rattle.step_types.specs.Measures.{joined, met, of_step, mixed, crossing, pascal}
 use Rattle.step_types.specs.Forms.{measure_of, measure_at}
+use Rattle.cayley_terms.specs.Instrs.{on_measure}
 
 -- what is behind a step that may end early
 pub some_then : {A B : Type 0} (o : Option A) (f : A → Option B) (y : B) → (o >>= f) ≡ Some y
@@ -14,9 +15,16 @@ pub some_then : {A B : Type 0} (o : Option A) (f : A → Option B) (y : B) → (
 some_then None f y e = absurd cc
 some_then (Some x) f y e = (x, (refl, e))
 
+pub some_same : {A : Type 0} (x y : A) → Some x ≡ Some y → x ≡ y
+some_same x y e = cc
+
 some_if : {A : Type 0} (b : Bool) (x y : A) → cond b (Some x) None ≡ Some y → (b ≡ true) × (x ≡ y)
 some_if true x y e = (refl, cc)
 some_if false x y e = absurd cc
+
+pub both_true : (a b : Bool) → (a && b) ≡ true → (a ≡ true) × (b ≡ true)
+both_true true b e = (refl, e)
+both_true false b e = absurd cc
 
 -- a join has a measure where its steps add up to less than the rank
 pub joined_is : (d : ℕ) (a b m : Measure) → joined d a b ≡ Some m → (a.step + b.step < d)
@@ -33,6 +41,53 @@ unfolding met
 met_is d a b m e =
     let two = some_if (nat_lt d (a.step + b.step)) _ m e in
     (ltb-true d (a.step + b.step) two.0, two.1)
+
+-- a point by two parameters has one of two points
+pub mixed_is : (a b m : Measure) → mixed a b ≡ Some m → (a.step ≡ 1) × (b.step ≡ 1) × (on_measure a b ≡ m)
+unfolding mixed
+mixed_is a b m e =
+    let two = some_if (a.step == 1 && b.step == 1) _ m e in
+    let points = both_true (a.step == 1) (b.step == 1) two.0 in
+    (eqb-true a.step 1 points.0, eqb-true b.step 1 points.1, two.1)
+
+-- where the line through a and b meets the line through c and d
+pub record Crosses (rank : ℕ) (a b c d m : Measure) : Type 0 where
+  pub first : Measure
+  pub second : Measure
+  pub joined_first : joined rank a b ≡ Some first
+  pub joined_second : joined rank c d ≡ Some second
+  pub met_there : met rank first second ≡ Some m
+
+pub crossing_is : (rank : ℕ) (a b c d m : Measure) → crossing rank a b c d ≡ Some m → Crosses rank a b c d m
+unfolding crossing
+crossing_is rank a b c d m e =
+    let one = some_then (joined rank a b) _ m e in
+    let two = some_then (joined rank c d) _ m one.1.1 in
+    record {
+      first = one.0;
+      second = two.0;
+      joined_first = one.1.0;
+      joined_second = two.1.0;
+      met_there = two.1.1;
+    }
+
+-- the crossings of Pascal's theorem
+pub record Hexagon (rank : ℕ) (a b c d e q m : Measure) : Type 0 where
+  pub x : Measure
+  pub y : Measure
+  pub z : Measure
+  pub is_x : crossing rank a b d e ≡ Some x
+  pub is_y : crossing rank a q c d ≡ Some y
+  pub is_z : crossing rank b c x y ≡ Some z
+  pub last : crossing rank a q e z ≡ Some m
+
+pub pascal_is : (rank : ℕ) (a b c d e q m : Measure) → pascal rank a b c d e q ≡ Some m → Hexagon rank a b c d e q m
+unfolding pascal
+pascal_is rank a b c d e q m h =
+    let x = some_then (crossing rank a b d e) _ m h in
+    let y = some_then (crossing rank a q c d) _ m x.1.1 in
+    let z = some_then (crossing rank b c x.0 y.0) _ m y.1.1 in
+    record { x = x.0; y = y.0; z = z.0; is_x = x.1.0; is_y = y.1.0; is_z = z.1.0; last = z.1.1 }
 
 pub of_step_is : (step : ℕ) (a m : Measure) → of_step step a ≡ Some m → (a.step ≡ step) × (a ≡ m)
 unfolding of_step

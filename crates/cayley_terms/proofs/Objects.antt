@@ -18,7 +18,7 @@ use Rattle.cayley_terms.specs.Straight.{Lowered, pushed, object_lowered}
 use Rattle.cayley_terms.proofs.Measured.{join_parts, meet_parts, joined_is, met_is}
 use Rattle.cayley_terms.proofs.Sound.{Keeps, keeps_not, keeps_on, keeps_pushed, join_below, IsAt, at_front, at_kept, IsSound, sound_push, at_last, join_measures, meet_measures, join_figures, meet_figures, join_inner, meet_inner}
 
-module _ (F : Frame) (d : ℕ) where
+module _ (F : Frame) (d used : ℕ) where
   -- a name with the number, the measure and the object that it has
   pub record Tie : Type 0 where
     pub name : List ℕ
@@ -28,7 +28,7 @@ module _ (F : Frame) (d : ℕ) where
 
   -- the instruction of its number makes the object
   abbrev pub IsTie : List Instr → Tie → Type 0
-  IsTie instrs t = IsAt F d instrs t.number t.measure t.figure
+  IsTie instrs t = IsAt F d used instrs t.number t.measure t.figure
 
   -- the same names have these numbers, measures and objects
   pub record AreTied (instrs : List Instr) (numbers : List (List ℕ × ℕ)) (made : List (List ℕ × Measure))
@@ -43,7 +43,7 @@ module _ (F : Frame) (d : ℕ) where
       → AllByRecursion (IsTie (instrs ++ more)) ties
   ties_front instrs more [] all = tt
   ties_front instrs more (t ∷ ties) all =
-      (at_front F d instrs more t.number t.measure t.figure all.0, ties_front instrs more ties all.1)
+      (at_front F d used instrs more t.number t.measure t.figure all.0, ties_front instrs more ties all.1)
 
   -- and so with more instructions behind them
   pub tied_kept : (s t : Lowered) (made : List (List ℕ × Measure)) (objects : List (List ℕ × Figure F.ring))
@@ -81,35 +81,35 @@ module _ (F : Frame) (d : ℕ) where
 
   found_in : (instrs : List Instr) (ties : List Tie) (name : List ℕ) (m : Measure) → AllByRecursion (IsTie instrs) ties
       → found name (map (λ t. (t.name, t.measure)) ties) ≡ Some m
-      → IsAt F d instrs (named 0 (map (λ t. (t.name, t.number)) ties) name) m
+      → IsAt F d used instrs (named 0 (map (λ t. (t.name, t.number)) ties) name) m
       (named (no_figure F.ring) (map (λ t. (t.name, t.figure)) ties) name)
   found_in instrs [] name m all e = absurd cc
   found_in instrs (t ∷ ties) name m all e =
       elim (name is t.name) as (λ b. cond b (Some t.measure) (found name (map (λ t. (t.name, t.measure)) ties)) ≡ Some m
-      → IsAt F d instrs (cond b t.number (named 0 (map (λ t. (t.name, t.number)) ties) name)) m
+      → IsAt F d used instrs (cond b t.number (named 0 (map (λ t. (t.name, t.number)) ties) name)) m
       (cond b t.figure (named (no_figure F.ring) (map (λ t. (t.name, t.figure)) ties) name))) [
         | true ↦ λ (e : Some t.measure ≡ Some m).
-            let same : t.measure ≡ m = cc in subst (λ k. IsAt F d instrs t.number k t.figure) same all.0
+            let same : t.measure ≡ m = cc in subst (λ k. IsAt F d used instrs t.number k t.figure) same all.0
         | false ↦ λ e. found_in instrs ties name m all.1 e
       ] e
 
   -- a name that is found has its number, its measure and its object
   pub tied_found : (instrs : List Instr) (numbers : List (List ℕ × ℕ)) (made : List (List ℕ × Measure))
       (objects : List (List ℕ × Figure F.ring)) (name : List ℕ) (m : Measure) → AreTied instrs numbers made objects
-      → found name made ≡ Some m → IsAt F d instrs (named 0 numbers name) m (named (no_figure F.ring) objects name)
+      → found name made ≡ Some m → IsAt F d used instrs (named 0 numbers name) m (named (no_figure F.ring) objects name)
   tied_found instrs numbers made objects name m tied e =
       let there = found_in instrs tied.ties name m tied.each (ap (found name) (sym tied.measured) ∙ e) in
-      subst (λ (es : List (List ℕ × ℕ)). IsAt F d instrs (named 0 es name) m (named (no_figure F.ring) objects name))
+      subst (λ (es : List (List ℕ × ℕ)). IsAt F d used instrs (named 0 es name) m (named (no_figure F.ring) objects name))
       (sym tied.numbered)
-      (subst (λ (es : List (List ℕ × Figure F.ring)). IsAt F d instrs (named 0 (map (λ t. (t.name, t.number)) tied.ties) name)
+      (subst (λ (es : List (List ℕ × Figure F.ring)). IsAt F d used instrs (named 0 (map (λ t. (t.name, t.number)) tied.ties) name)
       m (named (no_figure F.ring) es name)) (sym tied.meant) there)
 
   -- what lowering an object of this measure gives
   pub record Makes (s : Lowered) (fs : List (ℕ × Figure F.ring)) (ms : List (ℕ × Measure)) (r : Lowered × ℕ)
       (m : Measure) (x : Figure F.ring) : Type 0 where
-    pub sound : IsSound F d r.0 fs ms
+    pub sound : IsSound F d used r.0 fs ms
     pub keeps : Keeps s r.0
-    pub at : IsAt F d r.0.instrs r.1 m x
+    pub at : IsAt F d used r.0.instrs r.1 m x
     pub few : length r.0.instrs + 1 ≤ length s.instrs + (m.step + 4 * m.rows)
 
   -- two objects, and their join of less than the rank
@@ -122,20 +122,20 @@ module _ (F : Frame) (d : ℕ) where
   makes_join line s fs ms one two a b m x y first second below same rows degree =
       let i = instr.Join one.1 two.1 in
       let instrs = two.0.instrs in
-      let at_one = at_kept F d one.0 two.0 one.1 a x second.keeps first.at in
+      let at_one = at_kept F d used one.0 two.0 one.1 a x second.keeps first.at in
       let step_is : a.step + b.step ≡ m.step = ap (λ (k : Measure). k.step) same in
       let rows_are : a.rows + b.rows ≡ m.rows = ap (λ (k : Measure). k.rows) same in
       let degree_is : a.degree + b.degree ≡ m.degree = ap (λ (k : Measure). k.degree) same in
-      let inner = join_inner F d instrs one.1 two.1 a b x y at_one second.at below (omega arith) (omega arith) in
-      let measure = join_measures F d instrs one.1 two.1 a b x y at_one second.at ∙ join_below d a b below ∙ same in
+      let inner = join_inner F d used instrs one.1 two.1 a b x y at_one second.at below (omega arith) (omega arith) in
+      let measure = join_measures F d used instrs one.1 two.1 a b x y at_one second.at ∙ join_below d a b below ∙ same in
       record {
-        sound = sound_push F d line i two.0 fs ms second.sound inner tt;
+        sound = sound_push F d used line i two.0 fs ms second.sound inner tt;
         keeps =
             keeps_on s one.0 _ first.keeps
             (keeps_on one.0 two.0 _ second.keeps (keeps_pushed line None i two.0));
         at =
-            at_last F d instrs i m (joined F.ring x y) measure
-            (join_figures F d instrs one.1 two.1 a b x y at_one second.at)
+            at_last F d used instrs i m (joined F.ring x y) measure
+            (join_figures F d used instrs one.1 two.1 a b x y at_one second.at)
             (subst (IsSized d) measure inner.sized);
         few =
             let f = first.few in let g = second.few in omega (arith, length-append instrs (i ∷ []));
@@ -151,20 +151,20 @@ module _ (F : Frame) (d : ℕ) where
   makes_meet low line s fs ms one two a b m x y first second above same rows degree =
       let i = instr.Meet one.1 two.1 in
       let instrs = two.0.instrs in
-      let at_one = at_kept F d one.0 two.0 one.1 a x second.keeps first.at in
+      let at_one = at_kept F d used one.0 two.0 one.1 a x second.keeps first.at in
       let step_is : a.step + b.step - d ≡ m.step = ap (λ (k : Measure). k.step) same in
       let rows_are : a.rows + b.rows + 1 ≡ m.rows = ap (λ (k : Measure). k.rows) same in
       let degree_is : a.degree + b.degree ≡ m.degree = ap (λ (k : Measure). k.degree) same in
-      let inner = meet_inner F d instrs one.1 two.1 a b x y at_one second.at above (omega arith) (omega arith) in
-      let measure = meet_measures F d instrs one.1 two.1 a b x y at_one second.at ∙ same in
+      let inner = meet_inner F d used instrs one.1 two.1 a b x y at_one second.at above (omega arith) (omega arith) in
+      let measure = meet_measures F d used instrs one.1 two.1 a b x y at_one second.at ∙ same in
       record {
-        sound = sound_push F d line i two.0 fs ms second.sound inner tt;
+        sound = sound_push F d used line i two.0 fs ms second.sound inner tt;
         keeps =
             keeps_on s one.0 _ first.keeps
             (keeps_on one.0 two.0 _ second.keeps (keeps_pushed line None i two.0));
         at =
-            at_last F d instrs i m (met F.ring d x y) measure
-            (meet_figures F d instrs one.1 two.1 a b x y at_one second.at)
+            at_last F d used instrs i m (met F.ring d x y) measure
+            (meet_figures F d used instrs one.1 two.1 a b x y at_one second.at)
             (subst (IsSized d) measure inner.sized);
         few =
             let f = first.few in let g = second.few in omega (arith, length-append instrs (i ∷ []));
@@ -172,7 +172,7 @@ module _ (F : Frame) (d : ℕ) where
 
   module _ (made : List (List ℕ × Measure)) (objects : List (List ℕ × Figure F.ring)) (fs : List (ℕ × Figure F.ring))
       (ms : List (ℕ × Measure)) (low : d ≤ 4) where
-    pub makes_object : (line : ℕ) (o : Object) (s : Lowered) (m : Measure) → IsSound F d s fs ms
+    pub makes_object : (line : ℕ) (o : Object) (s : Lowered) (m : Measure) → IsSound F d used s fs ms
         → AreTied s.instrs s.numbers made objects → measure_of d made o ≡ Some m → m.rows ≤ 64 → m.degree ≤ 1000
         → Makes s fs ms (object_lowered line o s) m (object_figure F d objects o)
     unfolding object_lowered measure_of object_figure

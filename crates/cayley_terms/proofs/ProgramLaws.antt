@@ -24,7 +24,8 @@ use Rattle.cayley_terms.specs.Straight as straight
 use Rattle.cayley_terms.specs.Built.{IsBuilt}
 use Rattle.cayley_terms.specs.Room.{Fits}
 use Rattle.cayley_terms.specs.Kept.{ends, defined_in, definition_measures, IsNamed}
-use Rattle.cayley_terms.proofs.Sound.{IsFreeBelow}
+use Rattle.cayley_terms.proofs.Sound.{IsGivenBelow}
+use Rattle.cayley_terms.proofs.Params.{all_say}
 use Rattle.cayley_terms.proofs.Rows.{AreFound, Matches}
 use Rattle.cayley_terms.proofs.Whole.{points_at_end, defined_at_end, IsWhole, whole_rows}
 
@@ -34,7 +35,7 @@ params_in c = params_of [] (sentences_of c.rows)
 
 module _ (F : Frame) (c : Account) (good : IsGood c) (built : IsBuilt c) (given : IsAccount c.rank (sentences_of c.rows))
   where
-    at_head : Matches F c.rank straight.nothing (empty_scene F) [] []
+    at_head : Matches F c.rank (length (params_in c)) straight.nothing (empty_scene F) [] []
     unfolding made_behind
     at_head =
         record {
@@ -58,8 +59,8 @@ module _ (F : Frame) (c : Account) (good : IsGood c) (built : IsBuilt c) (given 
         let points = given.few_free in
         subst (λ r. IsWhole F c.rank (params_in c) (lowered c) (scene_of F c) (objects_in r)
         (flat_map defined_in (sentences_of c.rows))) (sym good.1)
-        (whole_rows F c.rank (params_in c) (omega arith) ranked.1 c.rows straight.nothing (empty_scene F) nothing good.0 []
-        at_head good.1 given.each given.ends built (omega (arith, points)))
+        (whole_rows F c.rank (params_in c) (omega arith) ranked.1 given.few_params c.rows straight.nothing (empty_scene F) nothing good.0 []
+        at_head good.1 given.each (all_say [] (sentences_of c.rows)) given.ends built (omega (arith, points)))
 
     -- as many points and definitions as the text has
     pub points_are : (lowered c).points ≡ sum_by free_names (sentences_of c.rows)
@@ -85,7 +86,7 @@ module _ (F : Frame) (c : Account) (good : IsGood c) (built : IsBuilt c) (given 
         let few_definitions = given.few_definitions in
         let few = whole.few in
         record {
-          instrs = let small : length (lowered c).instrs ≤ 600500 = omega (arith, points, definitions, few_free, few_definitions, few) in omega arith;
+          instrs = let small : length (lowered c).instrs ≤ 1040500 = omega (arith, points, definitions, few_free, few_definitions, few) in omega arith;
           points = omega (arith, points, few_free);
           definitions = omega (arith, definitions, few_definitions);
           names = whole.distinct;
@@ -115,7 +116,7 @@ module _ (F : Frame) (c : Account) (good : IsGood c) (built : IsBuilt c) (given 
         ≡ scalar F.ring c.rank (scene_of F c).concluded
     conclusion_kept = ap (scalar F.ring c.rank) whole.ended.last
 
-    -- points are numbers of names
+    -- points and parameters are numbers of names
     names_count : (sentences : List Sentence) → length (flat_map free_in sentences) ≡ sum_by free_names sentences
     names_count [] = refl
     names_count (Sentence.Free names ∷ sentences) =
@@ -130,20 +131,20 @@ module _ (F : Frame) (c : Account) (good : IsGood c) (built : IsBuilt c) (given 
     names_count (Sentence.Conclude claim ∷ sentences) =
         omega (arith, names_count sentences, sum_by-cons free_names (Sentence.Conclude claim) sentences)
 
-    free_named : (n : ℕ) (names : Names) (instrs : List Instr) → n ≡ length names.free
-        → AllByRecursion (IsFreeBelow n) instrs → AllByRecursion (IsNamed names) instrs
-    free_named n names [] same all = tt
-    free_named n names (i ∷ instrs) same all = (one i all.0, free_named n names instrs same all.1) where
-      one : (i : Instr) → IsFreeBelow n i → IsNamed names i
+    given_named : (n : ℕ) (names : Names) (instrs : List Instr) → n ≡ length names.free
+        → AllByRecursion (IsGivenBelow (length names.params) n) instrs → AllByRecursion (IsNamed names) instrs
+    given_named n names [] same all = tt
+    given_named n names (i ∷ instrs) same all = (one i all.0, given_named n names instrs same all.1) where
+      one : (i : Instr) → IsGivenBelow (length names.params) n i → IsNamed names i
       one (instr.Free k) below = omega arith
       one (instr.Join a b) below = tt
       one (instr.Meet a b) below = tt
-      one (instr.On a b s t) below = absurd below
+      one (instr.On a b s t) below = below
       one (instr.Conic p1 p2 p3 p4 p5 p6) below = tt
 
     pub names_kept : AllByRecursion (IsNamed (names_of c)) (lowered c).instrs
     names_kept =
-        free_named (lowered c).points (names_of c) (lowered c).instrs
+        given_named (lowered c).points (names_of c) (lowered c).instrs
         (points_are ∙ sym (names_count (sentences_of c.rows))) whole.ended.free
 
 -- from the head of the text on

@@ -1,6 +1,6 @@
 -- What holds while a construction is lowered.
 use Rattle.std.proofs.Common.{◌≡◌, ℕ, ◌+◌, ◌<◌, ◌≤◌, false, cond, List, [], ◌∷◌, ◌++◌, length, Option, None, Some, sym, ap, ◌∙◌, subst, refl, arith, append_assoc, append-nil, length-append}
-use Rattle.std.specs.Prelude.{◌==◌}
+use Rattle.std.specs.Prelude.{◌==◌, max}
 use Rattle.std.specs.List.{AllByRecursion}
 use Rattle.std.proofs.lemmas.Bool.{ne_eqb}
 use Rattle.step_types.specs.declared.measure.Measure.{Measure}
@@ -8,27 +8,28 @@ use Rattle.step_types.specs.Good.{IsSized}
 use Rattle.step_types.proofs.GoodLaws.{each_append}
 use Rattle.cayley_terms.specs.declared.instr.Instr.{Instr}
 use Rattle.cayley_terms.specs.declared.instr.Instr.TheVariants as instr
-use Rattle.cayley_terms.specs.Figures.{Figure, no_figure, joined, met}
+use Rattle.cayley_terms.specs.Figures.{Figure, no_figure, joined, met, mixed}
 use Rattle.cayley_terms.specs.Meaning.{Frame}
-use Rattle.cayley_terms.specs.Instrs.{made_behind, figure_at, instr_figure, figures, no_measure, measure_at, join_measure, meet_measure, instr_measure, measures}
+use Rattle.cayley_terms.specs.Instrs.{made_behind, figure_at, instr_figure, figures, no_measure, measure_at, join_measure, meet_measure, on_measure, instr_measure, measures}
 use Rattle.cayley_terms.specs.Programs.{NamesEarlier, IsInner}
 use Rattle.cayley_terms.specs.Straight.{Lowered, pushed}
 use Rattle.cayley_terms.specs.Kept.{ends}
 use Rattle.cayley_terms.proofs.Made.{made-push, length-made, made-front, made-last}
 use Rattle.cayley_terms.proofs.Inner.{AreInner, inner_push, ends-none, ends-some}
 
--- it is no free point, or one of the first so many; and it has no parameters
-abbrev pub IsFreeBelow : ℕ → Instr → Type 0
-IsFreeBelow n (instr.Free i) = i < n
-IsFreeBelow n (instr.Join a b) = Unit {0}
-IsFreeBelow n (instr.Meet a b) = Unit {0}
-IsFreeBelow n (instr.On a b s t) = ⊥
-IsFreeBelow n (instr.Conic p1 p2 p3 p4 p5 p6) = Unit {0}
+-- a free point is one of the first so many, and a parameter one of those that are used
+abbrev pub IsGivenBelow : (used points : ℕ) → Instr → Type 0
+IsGivenBelow used points (instr.Free i) = i < points
+IsGivenBelow used points (instr.Join a b) = Unit {0}
+IsGivenBelow used points (instr.Meet a b) = Unit {0}
+IsGivenBelow used points (instr.On a b s t) = (s < used) × (t < used)
+IsGivenBelow used points (instr.Conic p1 p2 p3 p4 p5 p6) = Unit {0}
 
-pub free_more : (n m : ℕ) (instrs : List Instr) → n ≤ m → AllByRecursion (IsFreeBelow n) instrs → AllByRecursion (IsFreeBelow m) instrs
-free_more n m [] more all = tt
-free_more n m (i ∷ instrs) more all = (one i all.0, free_more n m instrs more all.1) where
-  one : (i : Instr) → IsFreeBelow n i → IsFreeBelow m i
+pub given_more : (used n m : ℕ) (instrs : List Instr) → n ≤ m → AllByRecursion (IsGivenBelow used n) instrs
+    → AllByRecursion (IsGivenBelow used m) instrs
+given_more used n m [] more all = tt
+given_more used n m (i ∷ instrs) more all = (one i all.0, given_more used n m instrs more all.1) where
+  one : (i : Instr) → IsGivenBelow used n i → IsGivenBelow used m i
   one (instr.Free k) below = omega arith
   one (instr.Join a b) below = tt
   one (instr.Meet a b) below = tt
@@ -71,7 +72,7 @@ join_below d a b below =
     ap (λ r. a.rows + b.rows + cond r 1 0) other ∙ omega arith in
     ap (λ (rows : ℕ). record { step = a.step + b.step; rows = rows; degree = a.degree + b.degree }) none
 
-module _ (F : Frame) (d : ℕ) where
+module _ (F : Frame) (d used : ℕ) where
   -- the instruction of this number makes an object of this measure
   pub record IsAt (instrs : List Instr) (n : ℕ) (m : Measure) (x : Figure F.ring) : Type 0 where
     pub below : n < length instrs
@@ -102,7 +103,7 @@ module _ (F : Frame) (d : ℕ) where
     pub marks : length s.defined ≡ length s.instrs
     pub figures : ends s.defined (figures F d s.instrs) ≡ fs
     pub measures : ends s.defined (measures d s.instrs) ≡ ms
-    pub free : AllByRecursion (IsFreeBelow s.points) s.instrs
+    pub free : AllByRecursion (IsGivenBelow used s.points) s.instrs
 
   marks_made : {X : Type 0} (f : List X → Instr → X) (marks : List (Option ℕ)) (instrs : List Instr)
       → length marks ≡ length instrs → length marks ≡ length (made_behind f [] instrs)
@@ -110,7 +111,7 @@ module _ (F : Frame) (d : ℕ) where
 
   -- one more instruction, which ends no definition
   pub sound_push : (line : ℕ) (i : Instr) (s : Lowered) (fs : List (ℕ × Figure F.ring)) (ms : List (ℕ × Measure))
-      → IsSound s fs ms → IsInner d (measures d s.instrs) i → IsFreeBelow s.points i
+      → IsSound s fs ms → IsInner d (measures d s.instrs) i → IsGivenBelow used s.points i
       → IsSound (pushed line None i s).0 fs ms
   sound_push line i s fs ms sound inner free =
       record {
@@ -128,12 +129,12 @@ module _ (F : Frame) (d : ℕ) where
             ap (ends (s.defined ++ None ∷ [])) (made-push (instr_measure d) [] s.instrs i)
             ∙ ends-none s.defined (measures d s.instrs) _ (marks_made (instr_measure d) s.defined s.instrs sound.marks)
             ∙ sound.measures;
-        free = each_append (IsFreeBelow s.points) s.instrs (i ∷ []) sound.free (free, tt);
+        free = each_append (IsGivenBelow used s.points) s.instrs (i ∷ []) sound.free (free, tt);
       }
 
   -- one more instruction, which ends this definition
   pub sound_end : (line k : ℕ) (i : Instr) (s : Lowered) (fs : List (ℕ × Figure F.ring)) (ms : List (ℕ × Measure))
-      → IsSound s fs ms → IsInner d (measures d s.instrs) i → IsFreeBelow s.points i
+      → IsSound s fs ms → IsInner d (measures d s.instrs) i → IsGivenBelow used s.points i
       → IsSound (pushed line (Some k) i s).0 (fs ++ (k, instr_figure F d (figures F d s.instrs) i) ∷ [])
       (ms ++ (k, instr_measure d (measures d s.instrs) i) ∷ [])
   sound_end line k i s fs ms sound inner free =
@@ -154,7 +155,7 @@ module _ (F : Frame) (d : ℕ) where
             ∙ ends-some s.defined (measures d s.instrs) k _
             (marks_made (instr_measure d) s.defined s.instrs sound.marks)
             ∙ ap (λ (es : List (ℕ × Measure)). es ++ (k, instr_measure d (measures d s.instrs) i) ∷ []) sound.measures;
-        free = each_append (IsFreeBelow s.points) s.instrs (i ∷ []) sound.free (free, tt);
+        free = each_append (IsGivenBelow used s.points) s.instrs (i ∷ []) sound.free (free, tt);
       }
 
   -- the last instruction makes what it makes of those before it
@@ -168,6 +169,17 @@ module _ (F : Frame) (d : ℕ) where
         figure = made-last (instr_figure F d) instrs i (no_figure F.ring) ∙ figure;
         sized = sized;
       }
+
+  -- behind so many instructions at most the next one makes an object of this measure
+  pub record IsNext (s : Lowered) (fs : List (ℕ × Figure F.ring)) (ms : List (ℕ × Measure)) (many : ℕ) (t : Lowered)
+      (i : Instr) (m : Measure) (x : Figure F.ring) : Type 0 where
+    pub sound : IsSound t fs ms
+    pub keeps : Keeps s t
+    pub few : length t.instrs ≤ length s.instrs + many
+    pub inner : IsInner d (measures d t.instrs) i
+    pub given : IsGivenBelow used t.points i
+    pub measure : instr_measure d (measures d t.instrs) i ≡ m
+    pub figure : instr_figure F d (figures F d t.instrs) i ≡ x
 
   -- ---- the join and the meet of two
 
@@ -227,4 +239,29 @@ module _ (F : Frame) (d : ℕ) where
           earlier = meet_earlier;
           steps = let e = steps_of in omega arith;
           sized = subst (IsSized d) (sym meet_measures) sized;
+        }
+
+    -- a point by two parameters
+
+    pub on_measures : (u v : ℕ) → instr_measure d (measures d instrs) (instr.On a b u v) ≡ on_measure m n
+    on_measures u v = ap (λ k. on_measure k (measure_at (measures d instrs) b)) first.measure
+        ∙ ap (on_measure m) second.measure
+
+    pub on_figures : (u v : ℕ) → instr_figure F d (figures F d instrs) (instr.On a b u v)
+        ≡ mixed F.ring (F.param u) (F.param v) x y
+    on_figures u v =
+        ap (λ k. mixed F.ring (F.param u) (F.param v) k (figure_at F (figures F d instrs) b)) first.figure
+        ∙ ap (mixed F.ring (F.param u) (F.param v) x) second.figure
+
+    pub on_inner : (u v : ℕ) → m.step ≡ 1 → n.step ≡ 1 → u < 64 → v < 64 → max m.rows n.rows ≤ 64
+        → max m.degree n.degree + 1 ≤ 1000 → IsInner d (measures d instrs) (instr.On a b u v)
+    on_inner u v one other u_low v_low rows degree =
+        let below = first.sized.below in
+        let sized : IsSized d (on_measure m n) =
+        record { least = omega arith; below = omega arith; rows = rows; degree = degree } in
+        record {
+          earlier = join_earlier;
+          steps =
+              (ap (λ k. k.step) first.measure ∙ one, ap (λ k. k.step) second.measure ∙ other, u_low, v_low);
+          sized = subst (IsSized d) (sym (on_measures u v)) sized;
         }

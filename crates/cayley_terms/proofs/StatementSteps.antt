@@ -1,63 +1,55 @@
 -- What the functions that lower statements need room for, and that they do what is lowered.
-use Rattle.std.proofs.Common.{◌≡◌, ℕ, zero, suc, ◌+◌, ◌<◌, ◌≤◌, Bool, true, false, ◌&&◌, List, [], ◌∷◌, length, map, drop, get_or, fold, None, Some, sym, ap, ◌∙◌, subst, refl, arith, add-one}
+use Rattle.std.proofs.Common.{◌≡◌, ℕ, zero, suc, ◌+◌, ◌<◌, ◌≤◌, false, List, [], ◌∷◌, length, map, drop, get_or, fold, None, Some, sym, ap, ◌∙◌, subst, refl, arith, add-one}
 use Rattle.std.specs.Prelude.{IsTrue}
-use Rattle.std.specs.List.{list_all}
+use Rattle.std.specs.List.{AllByRecursion, list_all}
 use Rattle.construction_reader.specs.declared.types.Statement.{Statement}
-use Rattle.construction_reader.specs.Said.{Object, Recipe, Sentence, Row, row}
+use Rattle.construction_reader.specs.Said.{Object, Recipe, row, sentences_of}
+use Rattle.construction_reader.specs.Grammar.{IsSentence}
 use Rattle.cayley_terms.specs.declared.instr.Instr.{Instr}
 use Rattle.cayley_terms.specs.declared.instr.Instr.TheVariants as instr
-use Rattle.cayley_terms.specs.Named.{has_name}
-use Rattle.cayley_terms.specs.Built.{is_built_recipe, is_built_sentence, is_built}
-use Rattle.cayley_terms.specs.Straight.{Lowered, pushed, object_lowered, objects_lowered, recipe_lowered, chain_lowered, from_left_lowered, point_lowered, ended, sentence_lowered, row_lowered}
+use Rattle.cayley_terms.specs.Named.{place_of, has_name}
+use Rattle.cayley_terms.specs.Built.{is_built_sentence, is_built}
+use Rattle.cayley_terms.specs.Straight.{Lowered, pushed, object_lowered, objects_lowered, recipe_lowered, chain_lowered, from_left_lowered, point_lowered, ended, row_lowered}
 use Rattle.cayley_terms.specs.Room.{Fits}
 use Rattle.cayley_terms.proofs.Names.{distinct_new}
+use Rattle.cayley_terms.proofs.Measured.{both_true}
 use Rattle.cayley_terms.proofs.Growth.{grows_chain, grows_from_left, grows_points, grows_named, grows_ended, grows_rows, fits_before}
 use Rattle.cayley_terms.proofs.ObjectSteps.{pair_of, first_of_fits, second_of_fits, pair_of-is}
 
 -- ---- recipes
 
+-- the point by the parameters of these names
+abbrev pub on_params : List (List ℕ) → (u v : List ℕ) → ℕ → ℕ → Instr
+on_params params u v a b = instr.On a b (place_of u params) (place_of v params)
+
 module _ (params : List (List ℕ)) (line : ℕ) (r : Recipe) (a b : Object) (s : Lowered) where
-  join_recipe-is : r ≡ Recipe.Join a b → recipe_lowered params line r s ≡ pair_of instr.Join line a b s
+  pub join_recipe-is : r ≡ Recipe.Join a b → recipe_lowered params line r s ≡ pair_of instr.Join line a b s
   unfolding recipe_lowered
   join_recipe-is is_join = ap (λ p. recipe_lowered params line p s) is_join
 
-  meet_recipe-is : r ≡ Recipe.Meet a b → recipe_lowered params line r s ≡ pair_of instr.Meet line a b s
+  pub meet_recipe-is : r ≡ Recipe.Meet a b → recipe_lowered params line r s ≡ pair_of instr.Meet line a b s
   unfolding recipe_lowered
   meet_recipe-is is_meet = ap (λ p. recipe_lowered params line p s) is_meet
 
-  pub join_recipe_first : r ≡ Recipe.Join a b → Fits (recipe_lowered params line r s).0
-      → Fits (object_lowered line a s).0
-  join_recipe_first is_join room =
-      first_of_fits instr.Join line a b s
-      (subst (λ (x : Lowered × Instr). Fits x.0) (join_recipe-is is_join) room)
+  pub on_recipe-is : (u v : List ℕ) → r ≡ Recipe.On a b u v → recipe_lowered params line r s
+      ≡ pair_of (on_params params u v) line a b s
+  unfolding recipe_lowered
+  on_recipe-is u v is_on = ap (λ p. recipe_lowered params line p s) is_on
 
-  pub meet_recipe_first : r ≡ Recipe.Meet a b → Fits (recipe_lowered params line r s).0
-      → Fits (object_lowered line a s).0
-  meet_recipe_first is_meet room =
-      first_of_fits instr.Meet line a b s
-      (subst (λ (x : Lowered × Instr). Fits x.0) (meet_recipe-is is_meet) room)
+-- what `make` makes of two objects
+module _ (make : ℕ → ℕ → Instr) (line : ℕ) (a b : Object) (s : Lowered) (whole : Lowered × Instr)
+    (is : whole ≡ pair_of make line a b s) where
+  pub recipe_first : Fits whole.0 → Fits (object_lowered line a s).0
+  recipe_first room = first_of_fits make line a b s (subst (λ (x : Lowered × Instr). Fits x.0) is room)
 
-  pub join_recipe_second : (one : Lowered × ℕ) → one ≡ object_lowered line a s → r ≡ Recipe.Join a b
-      → Fits (recipe_lowered params line r s).0 → Fits (object_lowered line b one.0).0
-  join_recipe_second one is_one is_join room =
-      second_of_fits instr.Join line a b s one is_one
-      (subst (λ (x : Lowered × Instr). Fits x.0) (join_recipe-is is_join) room)
+  pub recipe_second : (one : Lowered × ℕ) → one ≡ object_lowered line a s → Fits whole.0
+      → Fits (object_lowered line b one.0).0
+  recipe_second one is_one room =
+      second_of_fits make line a b s one is_one (subst (λ (x : Lowered × Instr). Fits x.0) is room)
 
-  pub meet_recipe_second : (one : Lowered × ℕ) → one ≡ object_lowered line a s → r ≡ Recipe.Meet a b
-      → Fits (recipe_lowered params line r s).0 → Fits (object_lowered line b one.0).0
-  meet_recipe_second one is_one is_meet room =
-      second_of_fits instr.Meet line a b s one is_one
-      (subst (λ (x : Lowered × Instr). Fits x.0) (meet_recipe-is is_meet) room)
-
-  pub join_recipe_done : (one two : Lowered × ℕ) → one ≡ object_lowered line a s → two ≡ object_lowered line b one.0
-      → r ≡ Recipe.Join a b → (two.0, instr.Join one.1 two.1) ≡ recipe_lowered params line r s
-  join_recipe_done one two is_one is_two is_join =
-      pair_of-is instr.Join line a b s one two is_one is_two ∙ sym (join_recipe-is is_join)
-
-  pub meet_recipe_done : (one two : Lowered × ℕ) → one ≡ object_lowered line a s → two ≡ object_lowered line b one.0
-      → r ≡ Recipe.Meet a b → (two.0, instr.Meet one.1 two.1) ≡ recipe_lowered params line r s
-  meet_recipe_done one two is_one is_two is_meet =
-      pair_of-is instr.Meet line a b s one two is_one is_two ∙ sym (meet_recipe-is is_meet)
+  pub recipe_done : (one two : Lowered × ℕ) → one ≡ object_lowered line a s → two ≡ object_lowered line b one.0
+      → (two.0, make one.1 two.1) ≡ whole
+  recipe_done one two is_one is_two = pair_of-is make line a b s one two is_one is_two ∙ sym is
 
 -- ---- chains
 
@@ -163,26 +155,6 @@ points_end line [] (suc i) s over = refl
 points_end line (name ∷ names) zero s over = absurd (omega arith)
 points_end line (name ∷ names) (suc i) s over = points_end line names i s (omega arith)
 
--- ---- statements
-
--- the parameters do not matter to a form that has none
-pub built_recipe : (params : List (List ℕ)) (line : ℕ) (r : Recipe) (s : Lowered) → IsTrue (is_built_recipe r)
-    → recipe_lowered params line r s ≡ recipe_lowered [] line r s
-unfolding recipe_lowered
-built_recipe params line (Recipe.Join a b) s built = refl
-built_recipe params line (Recipe.Meet a b) s built = refl
-built_recipe params line (Recipe.On a b p q) s built = absurd cc
-built_recipe params line (Recipe.Pascal five through) s built = absurd cc
-
-pub built_row : (params : List (List ℕ)) (r : Row) (s : Lowered) → IsTrue (is_built_sentence r.sentence)
-    → row_lowered params s r ≡ row_lowered [] s r
-built_row params r s built = same r.sentence built where
-  same : (x : Sentence) → IsTrue (is_built_sentence x)
-      → sentence_lowered params r.line s x ≡ sentence_lowered [] r.line s x
-  same (Sentence.Free names) built = refl
-  same (Sentence.Define kind name recipe) built = ap (ended r.line name) (built_recipe params r.line recipe s built)
-  same (Sentence.Conclude claim) built = refl
-
 -- ---- all statements
 
 rows-at : (params : List (List ℕ)) (items : List Statement) (i : ℕ) (s : Statement) (l : Lowered) → i < length items
@@ -195,22 +167,21 @@ rows-at params (first ∷ items) (suc i) s l less at = rows-at params items i s 
 
 -- the first of the statements that are left
 pub rows_next : (params : List (List ℕ)) (items : List Statement) (i : ℕ) (s : Statement) (l one : Lowered)
-    → i < length items → s ≡ get_or items i s → IsTrue (is_built_sentence (row s).sentence)
-    → one ≡ row_lowered [] l (row s) → fold (row_lowered params) l (map row (drop i items))
+    → i < length items → s ≡ get_or items i s → one ≡ row_lowered params l (row s) → fold (row_lowered params) l (map row (drop i items))
     ≡ fold (row_lowered params) one (map row (drop (i + 1) items))
-rows_next params items i s l one less at built is_one =
+rows_next params items i s l one less at is_one =
     rows-at params items i s l less at
     ∙ ap (λ r. fold (row_lowered params) r (map row (drop (suc i) items)))
-    (built_row params (row s) l built ∙ sym is_one)
+    (sym is_one)
     ∙ ap (λ n. fold (row_lowered params) one (map row (drop n items))) (sym (add-one i))
 
 pub rows_room : (params : List (List ℕ)) (items : List Statement) (i : ℕ) (s : Statement) (l whole : Lowered)
-    → i < length items → s ≡ get_or items i s → IsTrue (is_built_sentence (row s).sentence)
-    → fold (row_lowered params) l (map row (drop i items)) ≡ whole → Fits whole → Fits (row_lowered [] l (row s))
-rows_room params items i s l whole less at built is_whole room =
-    let one = row_lowered [] l (row s) in
+    → i < length items → s ≡ get_or items i s → fold (row_lowered params) l (map row (drop i items)) ≡ whole
+    → Fits whole → Fits (row_lowered params l (row s))
+rows_room params items i s l whole less at is_whole room =
+    let one = row_lowered params l (row s) in
     fits_before one _ (grows_rows params (map row (drop (i + 1) items)) one)
-    (subst Fits (sym is_whole ∙ rows_next params items i s l one less at built refl) room)
+    (subst Fits (sym is_whole ∙ rows_next params items i s l one less at refl) room)
 
 pub rows_end : (params : List (List ℕ)) (items : List Statement) (i : ℕ) (l whole : Lowered) → length items ≤ i
     → fold (row_lowered params) l (map row (drop i items)) ≡ whole → l ≡ whole
@@ -218,10 +189,6 @@ rows_end params [] zero l whole over e = e
 rows_end params [] (suc i) l whole over e = e
 rows_end params (s ∷ items) zero l whole over e = absurd (omega arith)
 rows_end params (s ∷ items) (suc i) l whole over e = rows_end params items i l whole (omega arith) e
-
-both_true : (a b : Bool) → (a && b) ≡ true → (a ≡ true) × (b ≡ true)
-both_true true b e = (refl, e)
-both_true false b e = absurd cc
 
 -- each of the statements has a form that is lowered
 pub built_at : (items : List Statement) (i : ℕ) (s : Statement) → i < length items → s ≡ get_or items i s
@@ -232,6 +199,13 @@ built_at (first ∷ items) zero s less at all =
     (both_true (is_built (row first)) (list_all is_built (map row items)) all).0
 built_at (first ∷ items) (suc i) s less at all =
     built_at items i s (omega arith) at (both_true (is_built (row first)) (list_all is_built (map row items)) all).1
+
+-- and is one of the grammar
+pub formed_at : (items : List Statement) (i : ℕ) (s : Statement) → i < length items → s ≡ get_or items i s
+    → AllByRecursion IsSentence (sentences_of (map row items)) → IsSentence (row s).sentence
+formed_at [] i s less at all = absurd (omega arith)
+formed_at (first ∷ items) zero s less at all = subst (λ x. IsSentence (row x).sentence) (sym at) all.0
+formed_at (first ∷ items) (suc i) s less at all = formed_at items i s (omega arith) at all.1
 
 -- before the first statement
 pub rows_start : (params : List (List ℕ)) (l : Lowered) (items : List Statement)

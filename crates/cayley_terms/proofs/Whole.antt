@@ -1,5 +1,5 @@
 -- The straight list of a whole construction.
-use Rattle.std.proofs.Common.{◌≡◌, ℕ, ◌+◌, ◌*◌, ◌≤◌, Bool, true, false, not, ◌&&◌, cond, List, [], ◌∷◌, ◌++◌, length, fold, Some, Result, Ok, Err, sym, ap, ◌∙◌, subst, refl, arith, append_assoc, append-nil, length-append}
+use Rattle.std.proofs.Common.{◌≡◌, ℕ, ◌+◌, ◌*◌, ◌≤◌, Bool, true, false, not, cond, List, [], ◌∷◌, ◌++◌, length, fold, Some, Result, Ok, Err, sym, ap, ◌∙◌, subst, refl, arith, append_assoc, append-nil, length-append}
 use Rattle.std.specs.Prelude.{IsTrue, sum_by}
 use Rattle.std.specs.List.{AllByRecursion, enumerate_from, flat_map, list_all}
 use Rattle.std.proofs.lemmas.List.Sums.{sum_by-cons}
@@ -22,10 +22,12 @@ use Rattle.cayley_terms.specs.Meaning.{Frame, Scene, recipe_figure, with_point, 
 use Rattle.cayley_terms.specs.Straight.{Lowered, point_lowered, sentence_lowered, row_lowered}
 use Rattle.cayley_terms.specs.Built.{is_built, is_built_sentence}
 use Rattle.cayley_terms.specs.Kept.{defined_in}
-use Rattle.cayley_terms.proofs.Measured.{some_then, of_step_is}
+use Rattle.cayley_terms.proofs.Params.{SaysParams}
+use Rattle.cayley_terms.proofs.Measured.{some_then, both_true, of_step_is}
 use Rattle.cayley_terms.proofs.Chains.{IsEnded}
 use Rattle.cayley_terms.proofs.Claims.{concludes_claim}
-use Rattle.cayley_terms.proofs.Rows.{AreFound, all_found_more, Matches, match_points, match_definition}
+use Rattle.cayley_terms.proofs.Rows.{AreFound, all_found_more, Matches, match_points}
+use Rattle.cayley_terms.proofs.Definitions.{match_definition}
 
 -- ---- a statement without a fault
 
@@ -40,10 +42,6 @@ unfolding measured
 once rank known s m e =
     let fits = no_fault (not (fits_rank rank s)) _ _ m e in
     (no_fault (is_twice known s) _ _ m fits.1).0
-
-both_true : (a b : Bool) → (a && b) ≡ true → (a ≡ true) × (b ≡ true)
-both_true true b e = (refl, e)
-both_true false b e = absurd cc
 
 -- of a free line, the measure of a point
 free_measure : (rank : ℕ) (made : List (List ℕ × Measure)) (names : List (List ℕ)) (m : Measure)
@@ -112,27 +110,26 @@ module _ (F : Frame) (d : ℕ) (params : List (List ℕ)) where
 
   -- ---- one statement
 
-  match_row : 2 ≤ d → d ≤ 4 → (line : ℕ) (x : Sentence) (s : Lowered) (scene : Scene F) (known : Known)
-      (defs : List (List ℕ)) (m : Measure) → Matches F d s scene known.made defs → is_conclusion x ≡ false
-      → IsTrue (is_built_sentence x) → measured d known x ≡ Ok m → s.points + free_names x ≤ 200
-      → Matches F d (sentence_lowered params line s x) (scene_behind F d params scene x) (known_with known x m).made
+  match_row : 2 ≤ d → d ≤ 4 → length params ≤ 64 → (line : ℕ) (x : Sentence) (s : Lowered) (scene : Scene F) (known : Known)
+      (defs : List (List ℕ)) (m : Measure) → Matches F d (length params) s scene known.made defs → is_conclusion x ≡ false
+      → SaysParams params x → measured d known x ≡ Ok m → s.points + free_names x ≤ 200 → Matches F d (length params) (sentence_lowered params line s x) (scene_behind F d params scene x) (known_with known x m).made
       (defs ++ defined_in x)
-  match_row least low line (Sentence.Free names) s scene known defs m matches not_last built e room =
+  match_row least low few_params line (Sentence.Free names) s scene known defs m matches not_last says e room =
       let so = measured_so d known (Sentence.Free names) m e in
       let new = once_new known (Sentence.Free names) (once d known (Sentence.Free names) m e) in
       let same = free_measure d known.made names m so.measure in
-      let after = match_points F d least line names s scene known.made defs matches room new in
-      subst (λ (ds : List (List ℕ)). Matches F d (fold (point_lowered line) s names) (fold (with_point F) scene names)
+      let after = match_points F d (length params) least line names s scene known.made defs matches room new in
+      subst (λ (ds : List (List ℕ)). Matches F d (length params) (fold (point_lowered line) s names) (fold (with_point F) scene names)
       (known.made ++ entries_of m names) ds) (sym (append-nil defs))
-      (subst (λ (k : Measure). Matches F d (fold (point_lowered line) s names) (fold (with_point F) scene names)
+      (subst (λ (k : Measure). Matches F d (length params) (fold (point_lowered line) s names) (fold (with_point F) scene names)
       (known.made ++ entries_of k names) defs) same after)
-  match_row least low line (Sentence.Define kind name recipe) s scene known defs m matches not_last built e room =
+  match_row least low few_params line (Sentence.Define kind name recipe) s scene known defs m matches not_last says e room =
       let so = measured_so d known (Sentence.Define kind name recipe) m e in
       let new = once_new known (Sentence.Define kind name recipe) (once d known (Sentence.Define kind name recipe) m e) in
-      match_definition F d low params line name recipe s scene known.made defs m matches built
+      match_definition F d low params few_params line name recipe s scene known.made defs m matches says
       (definition_measure d known.made kind name recipe m so.measure) so.rows so.degree new.0
       ((bytes_eq-Decides name name).1 refl)
-  match_row least low line (Sentence.Conclude claim) s scene known defs m matches not_last built e room = absurd cc
+  match_row least low few_params line (Sentence.Conclude claim) s scene known defs m matches not_last says e room = absurd cc
 
   -- ---- all statements
 
@@ -140,15 +137,15 @@ module _ (F : Frame) (d : ℕ) (params : List (List ℕ)) where
   pub record IsWhole (t : Lowered) (scene : Scene F) (made : List (List ℕ × Measure)) (defs : List (List ℕ)) : Type 0
     where
       pub all : List Measure
-      pub ended : IsEnded F d t (enumerate_from 0 scene.defined) (enumerate_from 0 all) scene.concluded
+      pub ended : IsEnded F d (length params) t (enumerate_from 0 scene.defined) (enumerate_from 0 all) scene.concluded
       pub each : AreFound made defs all
-      pub few : length t.instrs ≤ t.points + 300 * t.definitions + 300
+      pub few : length t.instrs ≤ t.points + 520 * t.definitions + 300
       pub points : scene.points ≡ t.points
       pub count : length scene.defined ≡ t.definitions
       pub distinct : AreDistinct t.numbers
 
   last_row : 2 ≤ d → d ≤ 4 → (line : ℕ) (x : Sentence) (s : Lowered) (scene : Scene F) (known : Known)
-      (defs : List (List ℕ)) (m : Measure) → Matches F d s scene known.made defs → is_conclusion x ≡ true
+      (defs : List (List ℕ)) (m : Measure) → Matches F d (length params) s scene known.made defs → is_conclusion x ≡ true
       → IsSentence x → IsTrue (is_built_sentence x) → measured d known x ≡ Ok m
       → IsWhole (sentence_lowered params line s x) (scene_behind F d params scene x) (known_with known x m).made
       (defs ++ defined_in x)
@@ -156,7 +153,7 @@ module _ (F : Frame) (d : ℕ) (params : List (List ℕ)) where
   last_row least low line (Sentence.Define kind name recipe) s scene known defs m matches last formed built e = absurd cc
   last_row least low line (Sentence.Conclude claim) s scene known defs m matches last formed built e =
       let so = measured_so d known (Sentence.Conclude claim) m e in
-      let done = concludes_claim F d known.made scene.objects _ _ low least line claim s m matches.sound matches.tied
+      let done = concludes_claim F d (length params) known.made scene.objects _ _ low least line claim s m matches.sound matches.tied
       formed so.fits built (conclusion_measure d known.made claim m so.measure) so.rows so.degree in
       let keeps = done.keeps in
       record {
@@ -173,15 +170,15 @@ module _ (F : Frame) (d : ℕ) (params : List (List ℕ)) where
         distinct = subst AreDistinct (sym keeps.numbers) matches.distinct;
       }
 
-  pub whole_rows : 2 ≤ d → d ≤ 4 → (rows : List Row) (s : Lowered) (scene : Scene F) (known last : Known)
-      (defs : List (List ℕ)) → Matches F d s scene known.made defs → outcome d known rows ≡ Ok last
-      → AllByRecursion IsSentence (sentences_of rows) → EndsOnce (sentences_of rows)
+  pub whole_rows : 2 ≤ d → d ≤ 4 → length params ≤ 64 → (rows : List Row) (s : Lowered) (scene : Scene F) (known last : Known)
+      (defs : List (List ℕ)) → Matches F d (length params) s scene known.made defs → outcome d known rows ≡ Ok last
+      → AllByRecursion IsSentence (sentences_of rows) → AllByRecursion (SaysParams params) (sentences_of rows) → EndsOnce (sentences_of rows)
       → IsTrue (list_all is_built rows) → scene.points + sum_by free_names (sentences_of rows) ≤ 200
       → IsWhole (fold (row_lowered params) s rows) (fold (scene_behind F d params) scene (sentences_of rows)) last.made
       (defs ++ flat_map defined_in (sentences_of rows))
   unfolding outcome
-  whole_rows least low [] s scene known last defs matches e formed ends built room = absurd ends
-  whole_rows least low (row ∷ []) s scene known last defs matches e formed ends built room =
+  whole_rows least low few_params [] s scene known last defs matches e formed says ends built room = absurd ends
+  whole_rows least low few_params (row ∷ []) s scene known last defs matches e formed says ends built room =
       let first = first_taken d known last row [] e in
       let measure = measure_behind known first.0 row (measured d known row.sentence) first.1.0 in
       let end : first.0 ≡ last = let o = first.1.1 in cc in
@@ -194,20 +191,20 @@ module _ (F : Frame) (d : ℕ) (params : List (List ℕ)) where
       last.made (defs ++ ds)) (sym (append-nil (defined_in row.sentence)))
       (subst (λ (k : List (List ℕ × Measure)). IsWhole (row_lowered params s row)
       (scene_behind F d params scene row.sentence) k (defs ++ defined_in row.sentence)) made done)
-  whole_rows least low (row ∷ next ∷ rows) s scene known last defs matches e formed ends built room =
+  whole_rows least low few_params (row ∷ next ∷ rows) s scene known last defs matches e formed says ends built room =
       let first = first_taken d known last row (next ∷ rows) e in
       let measure = measure_behind known first.0 row (measured d known row.sentence) first.1.0 in
       let fine = both_true (is_built row) (list_all is_built (next ∷ rows)) built in
       let sum = sum_by-cons free_names row.sentence (sentences_of (next ∷ rows)) in
       let here = matches.points in
       let behind = points_behind row.sentence scene in
-      let one = match_row least low row.line row.sentence s scene known defs measure.0 matches ends.0 fine.0
+      let one = match_row least low few_params row.line row.sentence s scene known defs measure.0 matches ends.0 says.0
       measure.1.0 (omega (arith, sum, here, room)) in
-      let there = subst (λ (k : Known). Matches F d (row_lowered params s row)
+      let there = subst (λ (k : Known). Matches F d (length params) (row_lowered params s row)
       (scene_behind F d params scene row.sentence) k.made (defs ++ defined_in row.sentence)) (sym measure.1.1) one in
-      let rest = whole_rows least low (next ∷ rows) (row_lowered params s row)
+      let rest = whole_rows least low few_params (next ∷ rows) (row_lowered params s row)
       (scene_behind F d params scene row.sentence) first.0 last (defs ++ defined_in row.sentence) there first.1.1 formed.1
-      ends.1 fine.1 (omega (arith, sum, behind, room)) in
+      says.1 ends.1 fine.1 (omega (arith, sum, behind, room)) in
       subst (λ (ds : List (List ℕ)). IsWhole (fold (row_lowered params) s (row ∷ next ∷ rows))
       (fold (scene_behind F d params) scene (sentences_of (row ∷ next ∷ rows))) last.made ds)
       (append_assoc defs (defined_in row.sentence) (flat_map defined_in (sentences_of (next ∷ rows)))) rest

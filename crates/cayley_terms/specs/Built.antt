@@ -2,14 +2,7 @@
 use Rattle.std.specs.Prelude.{ℕ, Bool, true, false, not, Option, find, IsTrue}
 use Rattle.std.specs.List.{list_all}
 use Rattle.std.specs.Option.{option_map}
-use Rattle.construction_reader.specs.Said.{Recipe, Claim, Sentence, Row, Account}
-
--- whether it is a join or a meet
-abbrev pub is_built_recipe : Recipe → Bool
-is_built_recipe (Recipe.Join a b) = true
-is_built_recipe (Recipe.Meet a b) = true
-is_built_recipe (Recipe.On a b s t) = false
-is_built_recipe (Recipe.Pascal five through) = false
+use Rattle.construction_reader.specs.Said.{Claim, Sentence, Row, Account}
 
 -- whether it is made of joins or meets alone
 abbrev pub is_built_claim : Claim → Bool
@@ -20,10 +13,10 @@ is_built_claim (Claim.Meeting args) = true
 is_built_claim (Claim.Incident args) = true
 is_built_claim (Claim.Conic args) = false
 
--- whether a sentence has such a form
+-- whether a sentence is lowered: all but such conclusions are
 abbrev pub is_built_sentence : Sentence → Bool
 is_built_sentence (Sentence.Free names) = true
-is_built_sentence (Sentence.Define kind name recipe) = is_built_recipe recipe
+is_built_sentence (Sentence.Define kind name recipe) = true
 is_built_sentence (Sentence.Conclude claim) = is_built_claim claim
 
 -- whether a statement is lowered

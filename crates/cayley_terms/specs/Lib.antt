@@ -9,6 +9,7 @@ pub mod Kept
 pub mod Starts
 pub mod Listed
 pub mod Pairs
+pub mod Crossings
 pub mod Room
 pub mod Steps
 pub mod ProgramLaws

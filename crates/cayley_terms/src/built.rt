@@ -1,18 +1,12 @@
 //! Which forms are lowered so far.
 
 ghost use Rattle.std.specs.Prelude.{◌≡◌, ◌↔◌, IsNone};
-ghost use Rattle.construction_reader.specs.Said.{recipe, claim as said_claim, sentence, row};
+ghost use Rattle.construction_reader.specs.Said.{claim as said_claim, sentence, row};
 ghost use Rattle.construction_reader.specs.Seen.{account};
-ghost use Rattle.cayley_terms.specs.Built.{is_built_recipe, is_built_claim, is_built, IsBuilt, unbuilt_line};
+ghost use Rattle.cayley_terms.specs.Built.{is_built_claim, is_built, IsBuilt, unbuilt_line};
 
-use construction_reader::{Body, Conclusion, Expr, Statement};
+use construction_reader::{Body, Conclusion, Statement};
 use step_types::Checked;
-
-fn is_built_recipe(expr: &Expr) -> bool
-    ensures { result ≡ is_built_recipe (recipe expr.now) }
-{
-    matches!(expr, Expr::Join(_, _) | Expr::Meet(_, _))
-}
 
 fn is_built_claim(claim: &Conclusion) -> bool
     ensures { result ≡ is_built_claim (said_claim claim.now) }
@@ -24,8 +18,7 @@ fn is_built(statement: &Statement) -> bool
     ensures { result ≡ is_built (row statement.now) }
 {
     match &statement.body {
-        Body::Free(_) => true,
-        Body::Define { expr, .. } => is_built_recipe(expr),
+        Body::Free(_) | Body::Define { .. } => true,
         Body::Conclude(claim) => is_built_claim(claim),
     }
 }

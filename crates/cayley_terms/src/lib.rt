@@ -8,6 +8,7 @@ pub mod laws;
 mod lowering;
 mod numbers;
 mod pair;
+mod place;
 mod program;
 mod steps;
 mod straight;

@@ -1,15 +1,18 @@
 //! The straight list so far, and what statements add to it.
 
-ghost use Rattle.std.specs.Prelude.{◌≡◌, ◌∷◌, [], ◌++◌, map, fold, IfOk, OnOk, IsTrue, None, Some};
+ghost use Rattle.std.specs.Prelude.{◌≡◌, ◌≤◌, map, fold, length, IfOk, OnOk, IsTrue, None};
 ghost use Rattle.construction_reader.specs.Said.{object, objects, recipe, claim as said_claim, sentence, row};
-ghost use Rattle.cayley_terms.specs.Built.{is_built_recipe, is_built_claim, is_built_sentence};
+ghost use Rattle.construction_reader.specs.Grammar.{IsRecipe, IsSentence};
+ghost use Rattle.cayley_terms.specs.Built.{is_built_claim, is_built_sentence};
+ghost use Rattle.cayley_terms.specs.Crossings.{cut_lowered, crossing_lowered};
 ghost use Rattle.cayley_terms.specs.Pairs.{pair_instr, objects_from_left};
 ghost use Rattle.cayley_terms.specs.Room.{Fits};
-ghost use Rattle.cayley_terms.specs.Straight.{nothing, pushed, object_lowered, objects_lowered, recipe_lowered, from_left_lowered, claim_lowered, point_lowered, ended, sentence_lowered, row_lowered};
+ghost use Rattle.cayley_terms.specs.Straight.{nothing, pushed, object_lowered, objects_lowered, pascal_lowered, recipe_lowered, from_left_lowered, claim_lowered, point_lowered, ended, sentence_lowered, row_lowered};
 
 use crate::instr::Instr;
 use crate::numbers::Numbers;
 use crate::pair::Pair;
+use crate::place::place;
 use cay_base::NoMemory;
 use construction_reader::{Arg, Body, Conclusion, Expr, Name, Statement};
 use std::alloc::Global;
@@ -101,11 +104,53 @@ impl Lowering {
         Ok(numbers)
     }
 
-    /// Adds the arguments of an expression, and answers the instruction that makes it of them.
-    fn recipe(&mut self, line: u32, expr: &Expr) -> Result<Instr, NoMemory>
-        requires built { IsTrue (is_built_recipe (recipe expr.now)) }
-        requires room { Fits (recipe_lowered [] line (recipe expr.now) self.old).0 }
-        ensures { IfOk result (λ instr. (self.new, instr) ≡ recipe_lowered [] line (recipe expr.now) self.old) }
+    /// Adds the line through a and b, and where the line l meets it.
+    fn cut(&mut self, line: u32, l: u32, a: u32, b: u32) -> Result<u32, NoMemory>
+        requires { Fits (cut_lowered line l a b self.old).0 }
+        ensures { IfOk result (λ number. (self.new, number) ≡ cut_lowered line l a b self.old) }
+    {
+        let other = self.push(line, None, Instr::Join(a, b))?;
+        self.push(line, None, Instr::Meet(l, other))
+    }
+
+    /// Adds the line through a and b, the line through c and d, and where they meet.
+    fn crossing(&mut self, line: u32, a: u32, b: u32, c: u32, d: u32) -> Result<u32, NoMemory>
+        requires { Fits (crossing_lowered line a b c d self.old).0 }
+        ensures { IfOk result (λ number. (self.new, number) ≡ crossing_lowered line a b c d self.old) }
+    {
+        let first = self.push(line, None, Instr::Join(a, b))?;
+        self.cut(line, first, c, d)
+    }
+
+    /// Adds the joins and meets of five points and one more on the line, and answers the last of them, which makes the
+    /// point.
+    fn pascal(&mut self, line: u32, five: &[u32], q: u32) -> Result<Instr, NoMemory>
+        requires five { length five.now ≡ 5 }
+        requires room { Fits (pascal_lowered line five.now q self.old).0 }
+        ensures { IfOk result (λ instr. (self.new, instr) ≡ pascal_lowered line five.now q self.old) }
+    {
+        let (a, b, c, d, e) = (five[0], five[1], five[2], five[3], five[4]);
+        let l = self.push(line, None, Instr::Join(a, q))?;
+        let x = self.crossing(line, a, b, d, e)?;
+        let y = self.cut(line, l, c, d)?;
+        let z = self.crossing(line, b, c, x, y)?;
+        let side = self.push(line, None, Instr::Join(e, z))?;
+        Ok(Instr::Meet(l, side))
+    }
+
+    /// Adds the arguments of an expression, where the parameters have these names, and answers the instruction that makes
+    /// it of them.
+    fn recipe(
+        &mut self,
+        alloc: Global,
+        params: &[Name],
+        line: u32,
+        expr: &Expr,
+    ) -> Result<Instr, NoMemory>
+        requires params { length params.now ≤ 64 }
+        requires formed { IsRecipe (recipe expr.now) }
+        requires room { Fits (recipe_lowered params.now line (recipe expr.now) self.old).0 }
+        ensures { IfOk result (λ instr. (self.new, instr) ≡ recipe_lowered params.now line (recipe expr.now) self.old) }
     {
         match expr {
             Expr::Join(a, b) => {
@@ -118,7 +163,18 @@ impl Lowering {
                 let second = self.object(line, b)?;
                 Ok(Instr::Meet(first, second))
             }
-            Expr::On { .. } | Expr::Pascal { .. } => unreachable!(),
+            Expr::On { a, b, s, t } => {
+                let a = self.object(line, a)?;
+                let b = self.object(line, b)?;
+                let s = place(params, s);
+                let t = place(params, t);
+                Ok(Instr::On { a, b, s, t })
+            }
+            Expr::Pascal { five, through } => {
+                let five = self.objects(alloc, line, five.items())?;
+                let q = self.object(line, through)?;
+                self.pascal(line, &five, q)
+            }
         }
     }
 
@@ -182,28 +238,43 @@ impl Lowering {
         Ok(())
     }
 
-    fn define(&mut self, alloc: Global, line: u32, name: &Name, expr: &Expr) -> Result<(), NoMemory>
-        requires built { IsTrue (is_built_recipe (recipe expr.now)) }
-        requires room { Fits (ended line name.now (recipe_lowered [] line (recipe expr.now) self.old)) }
-        ensures { OnOk result (self.new ≡ ended line name.now (recipe_lowered [] line (recipe expr.now) self.old)) }
+    fn define(
+        &mut self,
+        alloc: Global,
+        params: &[Name],
+        line: u32,
+        name: &Name,
+        expr: &Expr,
+    ) -> Result<(), NoMemory>
+        requires params { length params.now ≤ 64 }
+        requires formed { IsRecipe (recipe expr.now) }
+        requires room { Fits (ended line name.now (recipe_lowered params.now line (recipe expr.now) self.old)) }
+        ensures { OnOk result (self.new ≡ ended line name.now (recipe_lowered params.now line (recipe expr.now) self.old)) }
     {
-        let instr = self.recipe(line, expr)?;
+        let instr = self.recipe(alloc, params, line, expr)?;
         let number = self.push(line, Some(self.definitions), instr)?;
         self.numbers.add(alloc, name.bytes(), number)?;
         self.definitions += 1;
         Ok(())
     }
 
-    /// Adds the instructions of a statement.
-    pub fn statement(&mut self, alloc: Global, statement: &Statement) -> Result<(), NoMemory>
+    /// Adds the instructions of a statement, where the parameters have these names.
+    pub fn statement(
+        &mut self,
+        alloc: Global,
+        params: &[Name],
+        statement: &Statement,
+    ) -> Result<(), NoMemory>
+        requires params { length params.now ≤ 64 }
+        requires formed { IsSentence (sentence statement.now.body) }
         requires built { IsTrue (is_built_sentence (sentence statement.now.body)) }
-        requires room { Fits (row_lowered [] self.old (row statement.now)) }
-        ensures { OnOk result (self.new ≡ row_lowered [] self.old (row statement.now)) }
+        requires room { Fits (row_lowered params.now self.old (row statement.now)) }
+        ensures { OnOk result (self.new ≡ row_lowered params.now self.old (row statement.now)) }
     {
         let line = statement.line;
         match &statement.body {
             Body::Free(names) => self.points(alloc, line, names.items()),
-            Body::Define { name, expr, .. } => self.define(alloc, line, name, expr),
+            Body::Define { name, expr, .. } => self.define(alloc, params, line, name, expr),
             Body::Conclude(claim) => self.claim(alloc, line, claim),
         }
     }

@@ -1,6 +1,8 @@
 //! Lowering a whole construction.
 
-ghost use Rattle.std.specs.Prelude.{◌≡◌, IfOk};
+ghost use Rattle.std.specs.Prelude.{◌≡◌, [], IfOk};
+ghost use Rattle.construction_reader.specs.Said.{sentences_of};
+ghost use Rattle.construction_reader.specs.Grammar.{params_of};
 ghost use Rattle.construction_reader.specs.Seen.{account};
 ghost use Rattle.step_types.specs.Checks.{IsGood};
 ghost use Rattle.cayley_terms.specs.Built.{IsBuilt};
@@ -13,19 +15,20 @@ use crate::lowering::Lowering;
 use crate::program::Program;
 use crate::steps::steps;
 use cay_base::NoMemory;
-use construction_reader::Construction;
+use construction_reader::{Construction, Name};
 use std::alloc::Global;
 use step_types::Checked;
 
-/// What all statements make.
-fn lowering(alloc: Global, c: &Construction) -> Result<Lowering, NoMemory>
+/// What all statements make, where the parameters have these names.
+fn lowering(alloc: Global, c: &Construction, params: &[Name]) -> Result<Lowering, NoMemory>
     requires good { IsGood (account c.now) }
+    requires params { params.now ≡ params_of [] (sentences_of (account c.now).rows) }
     requires built { IsBuilt (account c.now) }
     ensures { IfOk result (λ lowering. lowering ≡ lowered (account c.now)) }
 {
     let mut lowering = Lowering::new(alloc);
     for statement in c.statements.items() {
-        lowering.statement(alloc, statement)?;
+        lowering.statement(alloc, params, statement)?;
     }
     Ok(lowering)
 }
@@ -40,7 +43,7 @@ pub fn lower(alloc: Global, c: &Checked) -> Result<Program, NoMemory>
     ensures names { IfOk result (KeepsNames (account c.now)) }
 {
     let construction = c.construction();
-    let lowering = lowering(alloc, construction)?;
+    let lowering = lowering(alloc, construction, c.names().params.items())?;
     let steps = steps(alloc, construction.rank, &lowering.instrs)?;
     Ok(Program {
         rank: construction.rank,

@@ -1,22 +1,25 @@
--- The products of joins and of meets of values are products of bracket polynomials of the rank, and their extensors have as
--- many points as the step says, or none where that is the rank.
-use Rattle.std.proofs.Common.{◌≡◌, ℕ, ◌+◌, ◌-◌, ◌<◌, ◌≤◌, ◌==◌, Bool, true, false, cond, List, [], ◌∷◌, ◌++◌, length, flat_map}
+-- The products of joins, meets and combinations of values are products of bracket polynomials of the rank, and their
+-- extensors have as many points as the step says, or none where that is the rank.
+use Rattle.std.proofs.Common.{◌≡◌, ℕ, ◌+◌, ◌-◌, ◌<◌, ◌≤◌, ◌==◌, Bool, true, false, cond, List, [], ◌∷◌, ◌++◌, length, map, flat_map}
+use Rattle.std.proofs.Common.{replicate, slice_set}
 use Rattle.std.proofs.Common.{refl, sym, ap, ap₂, subst, ◌∙◌, arith, eqb-true}
 use Rattle.std.proofs.Common.{Ordering, Less, Equal, Greater}
 use Rattle.std.specs.Prelude.{if◌then◌else◌, ◌*ℤ◌, Some, None}
 use Rattle.std.specs.List.{AllByRecursion}
+use Rattle.std.proofs.lemmas.List.{length-set, length-replicate}
 use lib.ListN.{length-append}
 use Rattle.coordinate_model.specs.Sequences.{range, splits, at_places, repeats, sign_of}
-use Rattle.coordinate_model.specs.Key.{row_cmp, IsRow}
-use Rattle.coordinate_model.specs.BracketPolynomial.{IsBracketPolynomial}
+use Rattle.coordinate_model.specs.Key.{row_cmp, IsRow, IsKey}
+use Rattle.coordinate_model.specs.BracketPolynomial.{BracketPolynomial, IsBracketPolynomial, parameter_of}
 use Rattle.coordinate_model.specs.Syzygy.{sorted}
 use Rattle.coordinate_model.specs.Value.{Value, HasStep}
 use Rattle.coordinate_model.specs.Starts.{Product, Entry, join_product, join_products, meet_product, meet_products, reached}
-use Rattle.coordinate_model.specs.Starts.{put_extensor}
+use Rattle.coordinate_model.specs.Starts.{put_extensor, scaled_product, on_products}
+use Rattle.coordinate_model.proofs.KeySets.{all_single}
 use Rattle.coordinate_model.proofs.Sorting.{length-ordered}
 use Rattle.coordinate_model.proofs.SortedRows.{sorted_increasing}
 use Rattle.coordinate_model.proofs.Splits.{IsSplit, splits-are, range-below, length-range_from, length-at_places, all_so}
-use Rattle.coordinate_model.proofs.Splits.{all_flat_map}
+use Rattle.coordinate_model.proofs.Splits.{all_map, all_append, all_flat_map}
 use Rattle.coordinate_model.proofs.StartKeys.{IsProduct}
 
 -- a bracket polynomial of rank d and n parameters with an extensor of a points
@@ -153,6 +156,32 @@ module _ (d n a b : ℕ) (second : b ≤ d) where
     where
       places : Entry → Entry → List (List ℕ × List ℕ)
       places e f = splits (d - length f.0) (range (length e.0))
+
+-- ---- combinations
+
+module _ (d n a : ℕ) where
+  scaled-sized : (f : BracketPolynomial) → IsBracketPolynomial d n f → (A : Value) → AllByRecursion (IsEntry d n a) A
+      → AllByRecursion (IsSizedProduct d n a) (map (scaled_product f) A)
+  scaled-sized f h A p =
+      all_map (IsEntry d n a) (IsSizedProduct d n a) (scaled_product f)
+      (λ e i. record { product = record { left = i.keys; right = h; row = λ r s. cc }; points = i.points }) A p
+
+  pub combinations-sized : (s t : BracketPolynomial) → IsBracketPolynomial d n s → IsBracketPolynomial d n t
+      → (A B : Value) → AllByRecursion (IsEntry d n a) A → AllByRecursion (IsEntry d n a) B
+      → AllByRecursion (IsSizedProduct d n a) (on_products s t A B)
+  combinations-sized s t h k A B p q =
+      all_append (IsSizedProduct d n a) (map (scaled_product s) A) (map (scaled_product t) B) (scaled-sized s h A p)
+      (scaled-sized t k B q)
+
+-- a parameter is a bracket polynomial
+pub parameter-keys : (d n i : ℕ) → IsBracketPolynomial d n (parameter_of n i)
+parameter-keys d n i =
+    all_single (IsKey d n) (record { exponents = slice_set (replicate n 0) i 1; rows = [] })
+    (record {
+      parameters = length-set (replicate n 0) i 1 ∙ length-replicate n 0;
+      each = tt;
+      ascending = λ k x z h. absurd (omega arith);
+    })
 
 -- ---- the extensors that are reached
 

@@ -7,8 +7,8 @@ use Rattle.cayley_terms.specs.declared.instr.Instr.{Instr}
 use Rattle.cayley_terms.specs.declared.instr.Instr.TheVariants as instr
 use Rattle.cayley_terms.specs.declared.program.Program.{Program}
 use Rattle.cayley_terms.specs.Kept.{IsStraight}
-use Rattle.cayley_terms.specs.Built.{is_built_recipe, is_built_claim, is_built_sentence, is_built, IsBuilt}
-use Rattle.cayley_terms.specs.Straight.{Lowered, object_lowered, objects_lowered, recipe_lowered, chain_lowered, from_left_lowered, claim_lowered, point_lowered, sentence_lowered, row_lowered, lowered}
+use Rattle.cayley_terms.specs.Built.{is_built_claim, is_built_sentence, is_built, IsBuilt}
+use Rattle.cayley_terms.specs.Straight.{Lowered, object_lowered, objects_lowered, pascal_lowered, recipe_lowered, chain_lowered, from_left_lowered, claim_lowered, point_lowered, sentence_lowered, row_lowered, lowered}
 use Rattle.cayley_run.specs.Runs.{IsRun}
 
 both_true : (a b : Bool) → (a && b) ≡ true → (a ≡ true) × (b ≡ true)
@@ -38,15 +38,28 @@ unfolding objects_lowered
 run_objects line [] s all = all
 run_objects line (o ∷ os) s all = run_objects line os (object_lowered line o s).0 (run_object line o s all)
 
-run_recipe : (params : List (List ℕ)) (line : ℕ) (r : Recipe) (s : Lowered) → IsTrue (is_built_recipe r) → AreRun s
+run_pascal : (line : ℕ) (points : List ℕ) (q : ℕ) (s : Lowered) → AreRun s
+    → AreRun (pascal_lowered line points q s).0 × IsRun (pascal_lowered line points q s).1
+unfolding pascal_lowered
+run_pascal line (a ∷ b ∷ c ∷ d ∷ e ∷ []) q s all =
+    let four = one_more _ _ (one_more _ _ (one_more _ _ (one_more _ _ all tt) tt) tt) tt in
+    let eight = one_more _ _ (one_more _ _ (one_more _ _ (one_more _ _ four tt) tt) tt) tt in
+    (one_more _ _ (one_more _ _ eight tt) tt, tt)
+run_pascal line five q s all = (all, tt)
+
+run_recipe : (params : List (List ℕ)) (line : ℕ) (r : Recipe) (s : Lowered) → AreRun s
     → AreRun (recipe_lowered params line r s).0 × IsRun (recipe_lowered params line r s).1
 unfolding recipe_lowered
-run_recipe params line (Recipe.Join a b) s built all =
+run_recipe params line (Recipe.Join a b) s all =
     let one = object_lowered line a s in (run_object line b one.0 (run_object line a s all), tt)
-run_recipe params line (Recipe.Meet a b) s built all =
+run_recipe params line (Recipe.Meet a b) s all =
     let one = object_lowered line a s in (run_object line b one.0 (run_object line a s all), tt)
-run_recipe params line (Recipe.On a b p q) s built all = absurd cc
-run_recipe params line (Recipe.Pascal five through) s built all = absurd cc
+run_recipe params line (Recipe.On a b p q) s all =
+    let one = object_lowered line a s in (run_object line b one.0 (run_object line a s all), tt)
+run_recipe params line (Recipe.Pascal five through) s all =
+    let points = objects_lowered line five s in
+    let q = object_lowered line through points.0 in
+    run_pascal line points.1 q.1 q.0 (run_object line through points.0 (run_objects line five s all))
 
 run_chain : (make : ℕ → ℕ → Instr) (line first : ℕ) (others : List ℕ) (s : Lowered) → ((a b : ℕ) → IsRun (make a b))
     → AreRun s → AreRun (chain_lowered make line first others s).0
@@ -85,7 +98,7 @@ run_row params r s built all = go r.sentence built
     go : (x : Sentence) → IsTrue (is_built_sentence x) → AreRun (sentence_lowered params r.line s x)
     go (Sentence.Free names) built = run_points r.line names s all
     go (Sentence.Define kind name recipe) built =
-        let both = run_recipe params r.line recipe s built all in one_more _ _ both.0 both.1
+        let both = run_recipe params r.line recipe s all in one_more _ _ both.0 both.1
     go (Sentence.Conclude claim) built = run_claim r.line claim s built all
 
 run_rows : (params : List (List ℕ)) (rows : List Row) (s : Lowered) → IsTrue (list_all is_built rows)

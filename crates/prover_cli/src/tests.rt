@@ -78,7 +78,7 @@ fn decides_plain_texts(rt: HostRuntime) -> Result<(), Fail> {
 
 #[test]
 fn refuses_other_texts(rt: HostRuntime) -> Result<(), Fail> {
-    let cases: [(&[u8], &str); 19] = [
+    let cases: [(&[u8], &str); 17] = [
         (b"", "1 noheader"),
         (b"construction 2\n", "1 noheader"),
         (b"construction 1\nrank 2\n", "2 noheader"),
@@ -120,16 +120,8 @@ fn refuses_other_texts(rt: HostRuntime) -> Result<(), Fail> {
         ),
         // What the step rules take and the program does not yet.
         (
-            b"construction 1\nrank 4\nfree A B\npoint P = on A B with s t\nconclude meeting (join A B) (join A P)\n",
-            "4 later",
-        ),
-        (
-            b"construction 1\nrank 3\nfree A B C\npoint P = on A B with s t\nconclude collinear A B P\n",
-            "4 later",
-        ),
-        (
-            b"construction 1\nrank 3\nfree A B C D E F\nconclude conic A B C D E F\n",
-            "4 later",
+            b"construction 1\nrank 3\nfree A B C D E\npoint F = on A B with s t\nconclude conic A B C D E F\n",
+            "5 later",
         ),
     ];
     let alloc = rt.alloc();
@@ -201,7 +193,7 @@ const ONE_TURN: &[u8] =
     b"construction 1\nrank 3\nfree A B C D E F\nconclude concurrent (join C F) (join A B) (join D E)\n";
 
 /// Texts with the words after `prove`, the status, and how the output ends.
-const PROOFS: [(&[u8], &[&str], Status, &[u8]); 9] = [
+const PROOFS: [(&[u8], &[&str], Status, &[u8]); 12] = [
     (
         ONE_TURN,
         &["--budget", "1"],
@@ -251,6 +243,26 @@ const PROOFS: [(&[u8], &[&str], Status, &[u8]); 9] = [
         &[],
         Status::Proved,
         b"\nobject 10 step 1\nscalar O\nstart\n+1 [O A C D] [O B E F]\n-1 [O A E F] [O B C D]\nuse +1 ; O A ; O B C E F ; D\nuse -1 ; O A C ; O B D E F ;\nuse +1 ; O A B ; O C D E F ;\nend\n-1 [O A B C] [O D E F]\n+1 [O A B D] [O C E F]\nobject 11 step 0\nscalar\nstart\nzero\nend\nzero\nproved\n",
+    ),
+    // A hexagon on two lines, by parameters.
+    (
+        b"construction 1\nrank 3\nfree A B D E\npoint C = on A B with s t\npoint F = on D E with u v\npoint P = meet (join A E) (join B D)\npoint Q = meet (join A F) (join C D)\npoint R = meet (join B F) (join C E)\nconclude collinear P Q R\n",
+        &[],
+        Status::Proved,
+        b"\nscalar A D\nstart\n-1 t^1 u^1 [A B D] [B D E]\nend\n-1 t^1 u^1 [A B D] [B D E]\nscalar A E\nstart\n+1 s^1 v^1 [A B D] [A D E]\nend\n+1 s^1 v^1 [A B D] [A D E]\nscalar D E\nstart\n-1 t^1 u^1 [A B D] [A B D]\nend\n-1 t^1 u^1 [A B D] [A B D]\nobject 13 step 3\nscalar\nstart\nzero\nend\nzero\nproved\n",
+    ),
+    (
+        b"construction 1\nrank 4\nfree O A B\npoint A' = on O A with s t\npoint B' = on O B with u v\nconclude meeting (join A B) (join A' B')\n",
+        &[],
+        Status::Proved,
+        b"\nscalar\nstart\nzero\nend\nzero\nproved\n",
+    ),
+    // The sixth point of a conic is on the line that it is given on.
+    (
+        b"construction 1\nrank 3\nfree A B C D E Q\npoint F = pascal A B C D E through Q\nconclude collinear A Q F\n",
+        &[],
+        Status::Proved,
+        b"\nscalar\nstart\nzero\nend\nzero\nproved\n",
     ),
     // A line that meets itself.
     (

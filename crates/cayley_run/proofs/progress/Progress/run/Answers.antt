@@ -1,10 +1,10 @@
 use Rattle.std.proofs.Common.{rules}
 use Rattle.coordinate_model.specs.Starts.{join_products}
 use Rattle.bracket_poly.specs.declared.value.Value.{Value}
-use Rattle.cayley_run.specs.Ready.{IsJoin, IsMeet}
+use Rattle.cayley_run.specs.Ready.{IsJoin, IsMeet, IsMixed}
 use Rattle.cayley_run.specs.Seen.{log_of, steps_of}
 use Rattle.cayley_run.proofs.Operands.{said, are_joined, are_met, pair_fits, joined-same, log_of_join}
-use Rattle.cayley_run.proofs.Operands.{makes_join, makes_meet}
+use Rattle.cayley_run.proofs.Operands.{makes_join, makes_meet, makes_mixed, are_mixed, first_fits, second_fits}
 use Rattle.cayley_run.proofs.progress.Progress.run.Goals as goal
 
 pub join-starts-requires : goal.join-starts-requires
@@ -42,6 +42,37 @@ meet-starts-requires g c =
           are_met c.args.self.now a b x y c.index-in-Meet.ensures c.index-in-Meet-2.ensures c.args.step made,
           pair_fits c.args.self.now a b x y c.index-in-Meet.ensures c.index-in-Meet-2.ensures _ made.pair
               c.requires.ready.small,
+        ),
+      ),
+    )
+
+pub on-starts-requires : goal.on-starts-requires
+on-starts-requires g c =
+    let a = c.in-On.a in
+    let b = c.in-On.b in
+    let s = c.in-On.s in
+    let t = c.in-On.t in
+    let x : Value g.row.D = c.index-in-On.result.now in
+    let y : Value g.row.D = c.index-in-On-2.result.now in
+    let made : IsMixed g.row.D (steps_of c.args.self.now) (log_of c.args.self.now) a b s t c.args.step =
+    makes_mixed g.row.D (steps_of c.args.self.now) (log_of c.args.self.now) c.args.instr a b s t c.args.step
+    c.requires.ready c.in-On.is in
+    let small = c.requires.ready.small in (
+      search rules,
+      (
+        c.requires.rank,
+        (
+          are_mixed c.args.self.now a b x y c.index-in-On.ensures c.index-in-On-2.ensures s t c.args.step made,
+          (
+            made.first_parameter,
+            (
+              made.second_parameter,
+              (
+                first_fits c.args.self.now a b x y c.index-in-On.ensures c.index-in-On-2.ensures s _ made.pair small,
+                second_fits c.args.self.now a b x y c.index-in-On.ensures c.index-in-On-2.ensures t _ made.pair small,
+              ),
+            ),
+          ),
         ),
       ),
     )

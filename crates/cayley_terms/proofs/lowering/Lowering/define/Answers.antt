@@ -1,4 +1,4 @@
-use Rattle.std.proofs.Common.{ℕ, [], sym, ◌∙◌, ap, subst}
+use Rattle.std.proofs.Common.{ℕ, sym, ◌∙◌, ap, subst}
 use Rattle.construction_reader.specs.Said.{recipe}
 use Rattle.cayley_terms.specs.declared.instr.Instr.{Instr}
 use Rattle.cayley_terms.specs.Named.{has_name}
@@ -9,7 +9,7 @@ use Rattle.cayley_terms.proofs.lowering.Lowering.define.Goals as goal
 
 pub recipe-requires-clause-room : goal.recipe-requires-clause-room
 recipe-requires-clause-room c =
-    recipe_room c.args.line c.args.name.now (recipe_lowered [] c.args.line (recipe c.args.expr.now) c.args.self.now)
+    recipe_room c.args.line c.args.name.now (recipe_lowered c.args.params.now c.args.line (recipe c.args.expr.now) c.args.self.now)
     c.requires.room
 
 room_behind : (c : goal.After-push) → Fits (ended c.args.line c.args.name.now (c.recipe.new.self, c.in_ok-instr.instr))
