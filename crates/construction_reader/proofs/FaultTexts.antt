@@ -18,7 +18,7 @@ use Rattle.construction_reader.specs.Lines.{lines_of}
 use Rattle.construction_reader.specs.Texts.{Progress, start, takes_line, at_line, ends, reads, read_of, GivesText}
 use Rattle.construction_reader.specs.TextOf.{TextOf}
 use Rattle.construction_reader.specs.Faults.{spoken, concludes, HasFault, kinds, IsFirst, NoneFaulty, IsFaultyLine, EndsEarly, IsFault, IsCause}
-use Rattle.construction_reader.proofs.TextLaws.{read_takes}
+use Rattle.construction_reader.proofs.WholeTexts.{read_takes}
 use Rattle.construction_reader.proofs.TextAgain.{text_again}
 use Rattle.construction_reader.proofs.FineLines.{StateOf}
 use Rattle.construction_reader.proofs.FaultyLines.{line_ok, line_err}

@@ -22,7 +22,8 @@ use Rattle.construction_reader.specs.Faults.{unless_blank, spoken, concludes, Is
 use Rattle.construction_reader.proofs.ObjectLaws.{bind_ok, done, ok_is, chosen, is_itself}
 use Rattle.construction_reader.proofs.SentenceLaws.{sentence_takes}
 use Rattle.construction_reader.proofs.SentenceAgain.{shaped_again}
-use Rattle.construction_reader.proofs.TextLaws.{IsFresh, IsWithin, Pushed, counted, pushed, sentence_cases, two_is, not_err, not_false}
+use Rattle.construction_reader.proofs.TextLaws.{IsWithin, Pushed, counted, pushed, sentence_cases, not_err, not_false}
+use Rattle.construction_reader.proofs.WholeTexts.{IsFresh, two_is}
 
 -- ---- lists
 

@@ -7,7 +7,8 @@ use Rattle.construction_reader.specs.Lines.{lines_of, content}
 use Rattle.construction_reader.specs.Texts.{read_of}
 use Rattle.construction_reader.specs.Grammar.{sentence_tokens, RisesFrom, IsGiven}
 use Rattle.construction_reader.specs.TextOf.{onto_full, full_lines, TextOf}
-use Rattle.construction_reader.proofs.TextLaws.{said, tokens_cases, read_takes}
+use Rattle.construction_reader.proofs.TextLaws.{said, tokens_cases}
+use Rattle.construction_reader.proofs.WholeTexts.{read_takes}
 
 first_number : (m n : ℕ) (xs ys : List (List ℕ)) (us vs : List (ℕ × List (List ℕ))) → (m, xs) ∷ us ≡ (n, ys) ∷ vs
     → (m ≡ n) × (us ≡ vs)

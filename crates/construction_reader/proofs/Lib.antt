@@ -11,6 +11,7 @@ pub mod SentenceLaws
 pub mod SentenceAgain
 pub mod SpacedLaws
 pub mod TextLaws
+pub mod WholeTexts
 pub mod GivenLaws
 pub mod TextAgain
 pub mod PrintedLaws

@@ -24,7 +24,8 @@ use Rattle.construction_reader.specs.TextOf.{onto_full, full_lines, IsClean, Tex
 use Rattle.construction_reader.specs.declared.fault.ReadTextError.TheVariants as errors
 use Rattle.construction_reader.proofs.ObjectLaws.{is_itself}
 use Rattle.construction_reader.proofs.SentenceAgain.{three_or_four, sentence_again}
-use Rattle.construction_reader.proofs.TextLaws.{said, stage_after, tokens_cases, IsFresh}
+use Rattle.construction_reader.proofs.TextLaws.{said, stage_after, tokens_cases}
+use Rattle.construction_reader.proofs.WholeTexts.{IsFresh}
 
 abbrev done : {A : Type 0} → A → Result A TextFault
 done x = Ok x

@@ -1,7 +1,7 @@
 use Rattle.std.proofs.Common.{subst, sym}
 use Rattle.construction_reader.specs.Printed.{renumbered}
 use Rattle.construction_reader.specs.TextOf.{TextOf}
-use Rattle.construction_reader.proofs.TextLaws.{is_found}
+use Rattle.construction_reader.proofs.WholeTexts.{is_found}
 use Rattle.construction_reader.proofs.TextAgain.{is_only}
 use Rattle.construction_reader.proofs.FaultTexts.{is_cause}
 use Rattle.construction_reader.proofs.PrintedLaws.{printed-gives}
