@@ -4,4 +4,5 @@ pub mod Degrees
 pub mod EntryLaws
 pub mod KeyParts
 pub mod MetKeys
+pub mod Totals
 pub mod TrackedLaws

@@ -15,12 +15,11 @@ use Rattle.coordinate_model.proofs.KeySets.{AllTerms, all_single}
 use Rattle.coordinate_model.proofs.KeySizes.{exponent-added, added_up_to, length-in_order, length-points, all_points}
 use Rattle.coordinate_model.proofs.KeySizes.{each_row, same_length, all_of_same, same_rows}
 use Rattle.coordinate_model.proofs.SortedRows.{all_ordered}
-use Rattle.coordinate_model.proofs.Splits.{all_so, all_append, all_map, all_flat_map}
+use Rattle.coordinate_model.proofs.Splits.{all_so, all_append, all_map, all_flat_map, all_set, all_replicate}
 use Rattle.coordinate_model.proofs.StartKeys.{keys-product}
 use Rattle.step_types.specs.declared.measure.Measure.{Measure}
 use Rattle.straightening.specs.RunLaws.{use_points}
 use Rattle.cayley_terms.specs.Instrs.{join_measure, meet_measure, on_measure}
-use Rattle.shuffle_meet.proofs.SizeLaws.{all_set, all_replicate}
 use Rattle.cayley_run.specs.Bounds.{ArePoints, AreExponents, IsKeyWithin, IsPolynomialWithin, IsUseWithin}
 
 -- an entry of a value within these bounds

@@ -8,7 +8,7 @@ use Rattle.coordinate_model.specs.BracketPolynomial.{parameter_of}
 use Rattle.coordinate_model.specs.Starts.{Entry, Product, join_products, meet_products, on_products}
 use Rattle.coordinate_model.specs.Value as model
 use Rattle.coordinate_model.proofs.KeySets.{all_single}
-use Rattle.coordinate_model.proofs.Splits.{all_so}
+use Rattle.coordinate_model.proofs.Splits.{all_so, all_set, all_replicate}
 use Rattle.bracket_poly.specs.Products.{HasDegree, ExponentsFit}
 use Rattle.bracket_poly.specs.Values.{value_of}
 use Rattle.bracket_poly.specs.declared.value.Value.{Value}
@@ -18,7 +18,6 @@ use Rattle.cayley_terms.specs.declared.instr.Instr.TheVariants.{Join, Meet, On}
 use Rattle.cayley_terms.specs.Starts.{value_at, products_of}
 use Rattle.cayley_terms.specs.Starts as operation
 use Rattle.shuffle_meet.specs.Objects.{AreJoined, AreMet, AreMixed}
-use Rattle.shuffle_meet.proofs.SizeLaws.{all_set, all_replicate}
 use Rattle.cayley_run.specs.Ready.{IsOperand, step_at, ArePair, IsJoin, IsMeet, IsMixed, Makes, IsReady}
 use Rattle.cayley_run.specs.Runs.{Log, with_object, with_instr}
 use Rattle.cayley_run.specs.Seen.{log_of, steps_of}

@@ -1,31 +1,17 @@
 -- Starts with the keys that they have met are, by their sums, the starts of the model.
 use Rattle.std.proofs.Common.{◌≡◌, ℕ, Bool, true, false, cond, List, [], ◌∷◌, ◌++◌, map, filter, refl, sym, ap, ◌∙◌}
-use Rattle.std.proofs.Common.{append-nil, flat_map}
+use Rattle.std.proofs.Common.{flat_map}
 use Rattle.coordinate_model.specs.Sums.{Terms, sum_of}
 use Rattle.coordinate_model.specs.Key.{Key, key_cmp}
 use Rattle.coordinate_model.specs.BracketPolynomial.{BracketPolynomial, add}
 use Rattle.coordinate_model.specs.Starts.{Product, Entry, terms_of, products_at, reached, start_at, starts, has_term}
 use Rattle.coordinate_model.specs.Value.{Value}
-use Rattle.coordinate_model.proofs.KeySumLaws.{add_assoc, add_comm, terms-add, terms-same}
+use Rattle.bracket_poly.proofs.Totals.{adds_all}
 use Rattle.bracket_poly.specs.Tracked.{Tracked, nothing, plus_term, plus_terms}
 use Rattle.shuffle_meet.specs.Stops.{tracked_at, tracked_entries}
 use Rattle.cayley_run.specs.Sections.{Start}
 
--- ---- terms that are added one after another
-
-adds_all : (p : Tracked) (ts : Terms Key) → (plus_terms p ts).sum ≡ sum_of key_cmp (p.sum.terms ++ ts)
-adds_all p [] = sym (ap (sum_of key_cmp) (append-nil p.sum.terms) ∙ terms-same p.sum)
-adds_all p (t ∷ ts) =
-    let one : BracketPolynomial = sum_of key_cmp (t ∷ []) in
-    let rest : BracketPolynomial = sum_of key_cmp ts in
-    let old : BracketPolynomial = sum_of key_cmp p.sum.terms in
-    adds_all (plus_term p t) ts
-    ∙ terms-add (sum_of key_cmp (t ∷ p.sum.terms)).terms ts
-    ∙ ap (λ (f : BracketPolynomial). add f rest)
-    (terms-same (sum_of key_cmp (t ∷ p.sum.terms)) ∙ terms-add (t ∷ []) p.sum.terms ∙ add_comm one old)
-    ∙ add_assoc old one rest
-    ∙ ap (add old) (sym (terms-add (t ∷ []) ts))
-    ∙ sym (terms-add p.sum.terms (t ∷ ts))
+-- ---- sums
 
 pub tracked_sum : (x : List ℕ) (ps : List Product) → (tracked_at x ps).sum ≡ start_at x ps
 tracked_sum x ps = adds_all nothing (flat_map terms_of (products_at x ps))

@@ -1,5 +1,5 @@
 -- The sizes of the parts of splits, and of lists of entries.
-use Rattle.std.proofs.Common.{◌≡◌, ℕ, zero, suc, ◌+◌, ◌<◌, Bool, true, false, cond, List, [], ◌∷◌, ◌++◌, map, filter}
+use Rattle.std.proofs.Common.{◌≡◌, ℕ, zero, suc, ◌+◌, ◌<◌, Bool, true, false, cond, List, [], ◌∷◌, ◌++◌, map, filter, replicate, slice_set}
 use Rattle.std.proofs.Common.{flat_map, length, All, refl, ap, ◌∙◌, arith}
 use Rattle.std.specs.List.{AllByRecursion, cons_option}
 use Rattle.std.specs.Prelude.{slice_get}
@@ -26,6 +26,17 @@ pub all_both : {A : Type 0} (P Q : A → Type 0) (xs : List A) → AllByRecursio
     → AllByRecursion (λ x. P x × Q x) xs
 all_both P Q [] h k = tt
 all_both P Q (x ∷ xs) h k = ((h.0, k.0), all_both P Q xs h.1 k.1)
+
+-- what holds of x holds of any number of it, and of a list in which it takes a place
+pub all_replicate : {A : Type 0} (P : A → Type 0) (n : ℕ) (x : A) → P x → AllByRecursion P (replicate n x)
+all_replicate P zero x h = tt
+all_replicate P (suc n) x h = (h, all_replicate P n x h)
+
+pub all_set : {A : Type 0} (P : A → Type 0) (xs : List A) (i : ℕ) (v : A) → P v → AllByRecursion P xs
+    → AllByRecursion P (slice_set xs i v)
+all_set P [] i v p h = tt
+all_set P (x ∷ xs) zero v p h = (p, h.1)
+all_set P (x ∷ xs) (suc i) v p h = (h.0, all_set P xs i v p h.1)
 
 pub all_front : {A : Type 0} (P : A → Type 0) (xs ys : List A) → AllByRecursion P (xs ++ ys) → AllByRecursion P xs
 all_front P [] ys h = tt

@@ -18,7 +18,7 @@ use Rattle.bracket_poly.specs.declared.value.Value.{Value}
 use Rattle.shuffle_meet.specs.Objects.{AreJoined, AreMet, ProductsFit, ParameterFits, rows_of_join}
 use Rattle.shuffle_meet.proofs.ObjectSizes.{products_fit, parameter_fits}
 use Rattle.shuffle_meet.proofs.SeenLaws.{Entries}
-use Rattle.shuffle_meet.proofs.SizeLaws.{all_replicate}
+use Rattle.coordinate_model.proofs.Splits.{all_replicate}
 
 -- the key 1, and the polynomial 1
 abbrev unit_key : Key

@@ -14,7 +14,7 @@ use Rattle.coordinate_model.specs.Starts.{Product, Entry, join_product, join_pro
 use Rattle.coordinate_model.specs.Starts.{scaled_product}
 use Rattle.coordinate_model.proofs.KeySets.{all_single}
 use Rattle.coordinate_model.proofs.SortedRows.{all_ordered}
-use Rattle.coordinate_model.proofs.Splits.{all_map, all_append}
+use Rattle.coordinate_model.proofs.Splits.{all_map, all_so, all_append, all_replicate, all_set}
 use Rattle.bracket_terms.specs.declared.extensor.Extensor.{Extensor}
 use Rattle.bracket_poly.specs.declared.value.Value.{Value}
 use Rattle.bracket_poly.specs.Kept.{TrackedOf}
@@ -26,7 +26,7 @@ use Rattle.shuffle_meet.specs.Stops.{tracked_entries}
 use Rattle.shuffle_meet.specs.Seen.{seen}
 use Rattle.shuffle_meet.specs.Objects.{AreJoined, ProductsFit, ParameterFits, joined, met, mixed, AddsSizes, MixesSizes, rows_of_join}
 use Rattle.shuffle_meet.proofs.SeenLaws.{Entries}
-use Rattle.shuffle_meet.proofs.SizeLaws.{ProductWithin, within_product, within_entries, wider_product, all_flat, all_from, all_joined, all_at_places, all_replicate, all_set}
+use Rattle.shuffle_meet.proofs.SizeLaws.{ProductWithin, within_product, within_entries, wider_product, all_flat, all_joined, all_at_places}
 use Rattle.shuffle_meet.proofs.Answered.{steps_of}
 
 -- the exponents of a parameter
@@ -128,7 +128,7 @@ module _ (points parameters : ℕ) where
     meets_within : (d : ℕ) (A B : Listed) → AllByRecursion (HasSize r m) A → AllByRecursion (HasSize s n) B
         → AllByRecursion (ProductWithin points parameters (r + s + 1) (m + n)) (meet_products d A B)
     meets_within d A B h i =
-        all_flat _ _ A (all_from (HasSize r m) _ (λ e x. all_flat _ _ B (all_from (HasSize s n) _ (λ f y. parts e f x y) B i)) A h)
+        all_flat _ _ A (all_so (HasSize r m) _ (λ e x. all_flat _ _ B (all_so (HasSize s n) _ (λ f y. parts e f x y) B i)) A h)
       where
         parts : (e f : Entry) → HasSize r m e → HasSize s n f
             → AllByRecursion (ProductWithin points parameters (r + s + 1) (m + n))
@@ -191,7 +191,7 @@ mix_sizes d s t a b c e points parameters r m q n h k x y =
 has_degree : {d : ℕ} (points parameters rows n : ℕ) (e : Extensor × TrackedOf d) → EntryWithin points parameters rows n e
     → HasDegree n e.1.tracked.sum
 has_degree points parameters rows n e w =
-    all_from (λ t. KeyWithin points parameters rows n t.0) (λ t. AllByRecursion (λ x. x ≤ n) t.0.exponents)
+    all_so (λ t. KeyWithin points parameters rows n t.0) (λ t. AllByRecursion (λ x. x ≤ n) t.0.exponents)
     (λ t x. x.small) e.1.tracked.sum.terms w.keys
 
 -- values whose exponents are small can be multiplied by a parameter

@@ -9,6 +9,7 @@ use Rattle.std.specs.declared.cmp.Ordering.{Ordering}
 use Rattle.std.specs.declared.cmp.Ordering.TheVariants.{Less, Equal, Greater}
 use Rattle.coordinate_model.specs.Words.{place, ordered}
 use Rattle.coordinate_model.proofs.SortedRows.{all_ordered}
+use Rattle.coordinate_model.proofs.Splits.{all_so}
 use Rattle.coordinate_model.specs.Sums.{Terms}
 use Rattle.coordinate_model.specs.Key.{Key, key_times, row_cmp, add_exponents}
 use Rattle.coordinate_model.specs.BracketPolynomial.{AllKeys}
@@ -33,25 +34,9 @@ pub all_flat : {A B : Type 0} (P : B → Type 0) (f : A → List B) (xs : List A
 all_flat P f [] h = tt
 all_flat P f (x ∷ xs) h = all_joined P (f x) (flat_map f xs) h.0 (all_flat P f xs h.1)
 
--- what follows from another fact
-pub all_from : {A : Type 0} (P Q : A → Type 0) → ((x : A) → P x → Q x) → (xs : List A) → AllByRecursion P xs
-    → AllByRecursion Q xs
-all_from P Q f [] h = tt
-all_from P Q f (x ∷ xs) h = (f x h.0, all_from P Q f xs h.1)
-
 all_of : {A : Type 0} (Q : A → Type 0) → ((x : A) → Q x) → (xs : List A) → AllByRecursion Q xs
 all_of Q f [] = tt
 all_of Q f (x ∷ xs) = (f x, all_of Q f xs)
-
-pub all_replicate : {A : Type 0} (P : A → Type 0) (n : ℕ) (x : A) → P x → AllByRecursion P (replicate n x)
-all_replicate P zero x h = tt
-all_replicate P (suc n) x h = (h, all_replicate P n x h)
-
-pub all_set : {A : Type 0} (P : A → Type 0) (xs : List A) (i : ℕ) (v : A) → P v → AllByRecursion P xs
-    → AllByRecursion P (slice_set xs i v)
-all_set P [] i v p h = tt
-all_set P (x ∷ xs) zero v p h = (p, h.1)
-all_set P (x ∷ xs) (suc i) v p h = (h.0, all_set P xs i v p h.1)
 
 all_and_at : {A : Type 0} (P : A → Type 0) (xs : List A) (i : ℕ) (rest : List A) → AllByRecursion P xs
     → AllByRecursion P rest → AllByRecursion P (cons_option (slice_get xs i) rest)
@@ -107,8 +92,8 @@ all_reached_by P (p ∷ ps) h = all_put P p.extensor (reached ps) h.0 (all_reach
 
 add_small : (e f : ℕ) (xs ys : List ℕ) → AllByRecursion (λ x. x ≤ e) xs → AllByRecursion (λ y. y ≤ f) ys
     → AllByRecursion (λ z. z ≤ e + f) (add_exponents xs ys)
-add_small e f [] ys h k = all_from (λ y. y ≤ f) (λ z. z ≤ e + f) (λ z l. omega arith) ys k
-add_small e f (x ∷ xs) [] h k = all_from (λ y. y ≤ e) (λ z. z ≤ e + f) (λ z l. omega arith) (x ∷ xs) h
+add_small e f [] ys h k = all_so (λ y. y ≤ f) (λ z. z ≤ e + f) (λ z l. omega arith) ys k
+add_small e f (x ∷ xs) [] h k = all_so (λ y. y ≤ e) (λ z. z ≤ e + f) (λ z l. omega arith) (x ∷ xs) h
 add_small e f (x ∷ xs) (y ∷ ys) h k =
     let a : x ≤ e = h.0 in let b : y ≤ f = k.0 in (omega arith, add_small e f xs ys h.1 k.1)
 
@@ -196,14 +181,14 @@ module _ (points parameters : ℕ) where
         points_below = h.points_below;
         no_others = h.no_others;
         few_rows = omega arith;
-        small = all_from (λ x. x ≤ e) (λ x. x ≤ f) (λ x l. omega arith) k.exponents h.small;
+        small = all_so (λ x. x ≤ e) (λ x. x ≤ f) (λ x l. omega arith) k.exponents h.small;
       }
 
   pub wider_product : (r e s f : ℕ) (p : Product) → r ≤ s → e ≤ f → ProductWithin r e p → ProductWithin s f p
   wider_product r e s f p few low h = record {
     extensor = h.extensor;
     terms =
-        all_from (λ t. KeyWithin points parameters r e t.0) (λ t. KeyWithin points parameters s f t.0)
+        all_so (λ t. KeyWithin points parameters r e t.0) (λ t. KeyWithin points parameters s f t.0)
         (λ t x. wider_key r e s f t.0 few low x) (terms_of p) h.terms;
   }
 
@@ -233,7 +218,7 @@ module _ (points parameters : ℕ) where
         within_terms nothing (flat_map terms_of (products_at x ps)) (record { terms = tt; met = tt })
         (all_flat (λ t. Within t.0) terms_of (products_at x ps)
         (all_products_at (λ p. AllTerms Within (terms_of p)) x ps
-        (all_from (ProductWithin rows degree) (λ p. AllTerms Within (terms_of p)) (λ p w. w.terms) ps h)))
+        (all_so (ProductWithin rows degree) (λ p. AllTerms Within (terms_of p)) (λ p w. w.terms) ps h)))
 
     abbrev StartWithin : List ℕ × Tracked → Type 0
     StartWithin t = AllByRecursion (λ q. q < points) t.0 × TrackedWithin t.1
@@ -245,7 +230,7 @@ module _ (points parameters : ℕ) where
         all_reached : (qs : List Product) → AllByRecursion (ProductWithin rows degree) qs
             → AllByRecursion (AllByRecursion (λ q. q < points)) (reached qs)
         all_reached qs i = all_reached_by (AllByRecursion (λ q. q < points)) qs
-            (all_from (ProductWithin rows degree) (λ p. AllByRecursion (λ q. q < points) p.extensor) (λ p w. w.extensor) qs i)
+            (all_so (ProductWithin rows degree) (λ p. AllByRecursion (λ q. q < points) p.extensor) (λ p w. w.extensor) qs i)
 
         each : (xs : List (List ℕ)) → AllByRecursion (AllByRecursion (λ q. q < points)) xs
             → AllByRecursion StartWithin (map (λ x. (x, tracked_at x ps)) xs)

@@ -37,7 +37,8 @@ use Rattle.tableau_order.specs.Tableaux.{IsTableau}
 use Rattle.tableau_order.proofs.MergedRows.{smaller_pairs}
 use Rattle.tableau_order.proofs.Splits.{row_of, next_not_above, splits_at_violation}
 use Rattle.syzygies.specs.Places.{IsSameOrSmaller}
-use Rattle.syzygies.proofs.Falls.{rewrites_once, others_are_smaller, other_key, all_so, all_both}
+use Rattle.syzygies.proofs.Falls.{rewrites_once, others_are_smaller, other_key, all_both}
+use Rattle.coordinate_model.proofs.Splits.{all_so}
 use Rattle.syzygies.proofs.Rewriting.{two_rows, merged_again, rewrites_to_smaller}
 use Rattle.straightening.specs.Turns.{use_at}
 use Rattle.straightening.specs.RunLaws.{use_points}

@@ -1,6 +1,5 @@
 -- Runs by their turns: they keep the value, the rank and the classes of keys, and end normal where nothing stops them.
 use Rattle.std.proofs.Common.{◌≡◌, ℕ, zero, suc, List, [], ◌∷◌, ◌++◌, Option, Some, None, refl, sym, ap, subst, ◌∙◌}
-use Rattle.std.proofs.Common.{append-nil}
 use Rattle.std.specs.Prelude.{ℤ}
 use Rattle.coordinate_model.specs.Sequences.{IsRank}
 use Rattle.coordinate_model.specs.Sums.{Terms, sum_of}
@@ -11,11 +10,12 @@ use Rattle.coordinate_model.specs.Polynomial.{Polynomials}
 use Rattle.coordinate_model.specs.Syzygy.{Use, multiple, additions}
 use Rattle.coordinate_model.proofs.BracketPolynomialLaws.{value_of_sum}
 use Rattle.coordinate_model.proofs.KeySets.{all_plus}
-use Rattle.coordinate_model.proofs.KeySumLaws.{add_assoc, add_comm, terms-add, terms-same}
+use Rattle.coordinate_model.proofs.KeySumLaws.{terms-add, terms-same}
 use Rattle.coordinate_model.proofs.PolynomialRing.{polynomial_ring}
 use Rattle.coordinate_model.proofs.StartLaws.{additions_of_multiple}
 use Rattle.bracket_poly.specs.Tracked.{Tracked, Limit, plus_term, plus_terms, first_limit}
-use Rattle.syzygies.proofs.Falls.{all_so}
+use Rattle.bracket_poly.proofs.Totals.{adds_all}
+use Rattle.coordinate_model.proofs.Splits.{all_so}
 use Rattle.straightening.specs.Turns.{turn}
 use Rattle.straightening.specs.Runs.{Run, Stop, turns_stop, limit_stop, ended, after_use, run}
 use Rattle.straightening.specs.RunLaws.{AddsMultiple, RunKeepsValue, EndsWell, RunEndsWell, HasLike, KeepsClasses}
@@ -24,21 +24,7 @@ use Rattle.straightening.proofs.Rewritings.{IsAdded, value_multiple, points_here
 use Rattle.straightening.proofs.TermLists.{all_have_terms, holds_of_term}
 use Rattle.straightening.proofs.TurnLaws.{Taken, taken, keys_added, no_use, standard_no_use}
 
--- ---- adding terms one after another
-
-adds_all : (p : Tracked) (ts : Terms Key) → (plus_terms p ts).sum ≡ sum_of key_cmp (p.sum.terms ++ ts)
-adds_all p [] = sym (ap (sum_of key_cmp) (append-nil p.sum.terms) ∙ terms-same p.sum)
-adds_all p (t ∷ ts) =
-    let one : BracketPolynomial = sum_of key_cmp (t ∷ []) in
-    let rest : BracketPolynomial = sum_of key_cmp ts in
-    let old : BracketPolynomial = sum_of key_cmp p.sum.terms in
-    adds_all (plus_term p t) ts
-    ∙ terms-add (sum_of key_cmp (t ∷ p.sum.terms)).terms ts
-    ∙ ap (λ (f : BracketPolynomial). add f rest)
-    (terms-same (sum_of key_cmp (t ∷ p.sum.terms)) ∙ terms-add (t ∷ []) p.sum.terms ∙ add_comm one old)
-    ∙ add_assoc old one rest
-    ∙ ap (add old) (sym (terms-add (t ∷ []) ts))
-    ∙ sym (terms-add p.sum.terms (t ∷ ts))
+-- ---- a multiple
 
 pub adds_multiple : AddsMultiple
 adds_multiple p u =

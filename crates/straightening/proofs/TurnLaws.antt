@@ -18,7 +18,8 @@ use Rattle.coordinate_model.proofs.KeySets.{AllTerms}
 use Rattle.coordinate_model.proofs.Leading.{count-plus}
 use Rattle.tableau_order.specs.Standard.{IsFirstViolation}
 use Rattle.tableau_order.proofs.Columns.{falls_not_standard}
-use Rattle.syzygies.proofs.Falls.{none_at, all_so}
+use Rattle.coordinate_model.proofs.Splits.{all_so}
+use Rattle.syzygies.proofs.Falls.{none_at}
 use Rattle.straightening.specs.Turns.{first_violation, use_at, use_of_term, last_use, turn}
 use Rattle.straightening.specs.RunLaws.{TurnsWhereNotNormal, HasTerm, TurnRewritesGreatest}
 use Rattle.straightening.proofs.FirstViolations.{violation_found, columns_rise, standard_none}

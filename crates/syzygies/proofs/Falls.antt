@@ -22,7 +22,7 @@ use Rattle.coordinate_model.proofs.KeySets.{all_single, all_plus, all_times}
 use Rattle.coordinate_model.proofs.KeySumLaws.{single-mul, row_same}
 use Rattle.coordinate_model.proofs.Leading.{count-plus, Top-single}
 use Rattle.coordinate_model.proofs.Openings.{syz_term, syz-is, sorted_bracket-row}
-use Rattle.coordinate_model.proofs.Splits.{IsSplit, splits-are, range-below, length-range_from, length-at_places}
+use Rattle.coordinate_model.proofs.Splits.{IsSplit, splits-are, range-below, length-range_from, length-at_places, all_so}
 use Rattle.coordinate_model.proofs.StdSort.{increasing-repeats}
 use Rattle.tableau_order.specs.Standard.{IsFirstFall}
 use Rattle.tableau_order.specs.Violations.{alpha_at, beta_at, gamma_at, SplitsRows}
@@ -92,11 +92,6 @@ pub none_at : (k : Key) (ts : Terms Key) → AllByRecursion (λ t. eq_by_cmp key
     → count_at key_cmp k ts ≡ pos 0
 none_at k [] h = refl
 none_at k (t ∷ ts) h = ap₂ (λ b w. cond b t.1 (pos 0) +ℤ w) h.0 (none_at k ts h.1)
-
-pub all_so : {A : Type 0} (P Q : A → Type 0) → ((a : A) → P a → Q a) → (xs : List A) → AllByRecursion P xs
-    → AllByRecursion Q xs
-all_so P Q f [] h = tt
-all_so P Q f (x ∷ xs) h = (f x h.0, all_so P Q f xs h.1)
 
 pub all_both : {A : Type 0} (P Q S : A → Type 0) → ((a : A) → P a → Q a → S a) → (xs : List A) → AllByRecursion P xs
     → AllByRecursion Q xs

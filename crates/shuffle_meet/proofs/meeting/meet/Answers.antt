@@ -8,7 +8,7 @@ use Rattle.bracket_poly.specs.Values.{entry_of, value_of}
 use Rattle.shuffle_meet.specs.Objects.{met, meets_with}
 use Rattle.shuffle_meet.proofs.Added.{Polys, HasAdded}
 use Rattle.shuffle_meet.proofs.SeenLaws.{Entries, HaveSize}
-use Rattle.shuffle_meet.proofs.SizeLaws.{all_from}
+use Rattle.coordinate_model.proofs.Splits.{all_so}
 use Rattle.shuffle_meet.proofs.Pairs.{size_at, all_sizes, exponents_at, next_left, stop_left, all_left}
 use Rattle.shuffle_meet.proofs.Answered.{if_ok, handed_back, answer_entries, limits_answered, error_answered, is_meet}
 use Rattle.shuffle_meet.proofs.ObjectSizes.{meet_sizes}
@@ -19,7 +19,7 @@ sizes_add_up : {d : ℕ} (x : Extensor × TrackedOf d) (ys : Entries d) (a b ste
     → x.0.size ≡ a → HaveSize b ys
     → AllByRecursion (λ right. (right.0.size ≤ d) × (x.0.size + right.0.size ≡ d + step)) ys
 sizes_add_up x ys a b step e many below h k =
-    all_from (λ right. right.0.size ≡ b) _ (λ y l. (omega arith, omega arith)) ys k
+    all_so (λ right. right.0.size ≡ b) _ (λ y l. (omega arith, omega arith)) ys k
 
 pub add_meets-requires : goal.add_meets-requires
 add_meets-requires g c =
