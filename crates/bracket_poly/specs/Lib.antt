@@ -5,4 +5,5 @@ pub mod Answers
 pub mod Products
 pub mod Entries
 pub mod Values
+pub mod Sizes
 pub mod Sections

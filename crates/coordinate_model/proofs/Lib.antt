@@ -7,6 +7,7 @@ pub mod BracketPolynomialLaws
 pub mod Checks
 pub mod Closure
 pub mod Coefficients
+pub mod ConicLaws
 pub mod Counts
 pub mod Diagonal
 pub mod Exponents

@@ -180,21 +180,27 @@ unfolding coordinates
 joined-with y [] K = refl
 joined-with y (z ∷ B) K = ap (λ p. value (mul y.1 z.1) ⊗ free (y.0 ++ z.0) K ⊕ p) (joined-with y B K)
 
-pub join_of_values : JoinOfValues
+-- the coordinates of a join, entry by entry
+pub join_total : (A B : Value) (K : List ℕ)
+    → coordinates (join_values A B) K ≡ total (λ y. total (λ z. value (mul y.1 z.1) ⊗ free (y.0 ++ z.0) K) B) A
 unfolding join_values
+join_total A B K =
+    coordinates-flat_map (λ y. map (λ z. (y.0 ++ z.0, mul y.1 z.1)) B) A K
+    ∙ same_total _ (λ y. total (λ z. value (mul y.1 z.1) ⊗ free (y.0 ++ z.0) K) B) A (each A)
+  where
+    each : (A : Value)
+        → AllByRecursion (λ y. coordinates (map (λ z. (y.0 ++ z.0, mul y.1 z.1)) B) K
+        ≡ total (λ z. value (mul y.1 z.1) ⊗ free (y.0 ++ z.0) K) B) A
+    each [] = tt
+    each (y ∷ A) = (joined-with y B K, each A)
+
+pub join_of_values : JoinOfValues
 join_of_values d a b A B r s p q i x h =
     let K : List ℕ = get_or (subsets d (a + b)) i x in
-    coordinates-flat_map (λ y. map (λ z. (y.0 ++ z.0, mul y.1 z.1)) B) A K
-    ∙ same_total _ (λ y. total (λ z. value (mul y.1 z.1) ⊗ free (y.0 ++ z.0) K) B) A (each A K)
+    join_total A B K
     ∙ of_values (join Polynomials a) (linear-joins Polynomials polynomial_ring a) K a b
     (λ y z. value (mul y.1 z.1) ⊗ free (y.0 ++ z.0) K)
     (λ y z e g. ap₂ ◌⊗◌ (value-hom.to_mul y.1 z.1) (sym (join_free d a b y.0 z.0 r s e g i x h))) A B p q
-  where
-    each : (A : Value) (K : List ℕ)
-        → AllByRecursion (λ y. coordinates (map (λ z. (y.0 ++ z.0, mul y.1 z.1)) B) K
-        ≡ total (λ z. value (mul y.1 z.1) ⊗ free (y.0 ++ z.0) K) B) A
-    each [] K = tt
-    each (y ∷ A) K = (joined-with y B K, each A K)
 
 -- ---- meets
 

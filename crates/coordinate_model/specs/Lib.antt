@@ -15,4 +15,5 @@ pub mod NormalLaws
 pub mod PlacementLaws
 pub mod Starts
 pub mod StartLaws
+pub mod Conics
 pub mod Code

@@ -14,6 +14,7 @@ ghost use Rattle.coordinate_model.specs.ObjectLaws.{ShuffleLaw, MeetValue, Linea
 ghost use Rattle.coordinate_model.specs.ObjectLaws.{CombinationOfValues, JoinOfValues, MeetOfValues};
 ghost use Rattle.coordinate_model.specs.StartLaws.{StartsOfJoin, StartsOfMeet, StartsOfOn, ValueOfParameter};
 ghost use Rattle.coordinate_model.specs.StartLaws.{ZeroEntries, AdditionsOfMultiple};
+ghost use Rattle.coordinate_model.specs.Conics.{BracketOfValues, ConicOfValues};
 ghost use Rattle.coordinate_model.specs.NormalLaws.{SamePolynomials, SameBracketPolynomials, HasCoefficients};
 ghost use Rattle.coordinate_model.specs.NormalLaws.{KeySumLaws, ValueOfSum, ValueOfProduct, MakesBracketPolynomials};
 ghost use Rattle.coordinate_model.specs.NormalLaws.{LexicographicOrder, GreatestOfKey, OneKey, Independent};
@@ -114,6 +115,13 @@ pub fn starts()
     ensures combinations { StartsOfOn }
     ensures parameters { ValueOfParameter }
     ensures zeros { ZeroEntries }
+{}
+
+/// The bracket of three points that are values, and the six-point polynomial of six, have the values of those of their
+/// coordinates.
+pub fn conics()
+    ensures brackets { BracketOfValues }
+    ensures six_points { ConicOfValues }
 {}
 
 /// The terms that a use adds are its multiple.

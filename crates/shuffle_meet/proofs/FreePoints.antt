@@ -13,7 +13,8 @@ use Rattle.bracket_terms.proofs.ExtensorLaws.{length-points_of}
 use Rattle.bracket_poly.specs.Tracked.{Tracked, nothing, plus_term}
 use Rattle.bracket_poly.specs.Kept.{TrackedOf}
 use Rattle.bracket_poly.specs.Values.{entry_of, IsValue}
-use Rattle.shuffle_meet.specs.Sizes.{KeyWithin, IsWithin}
+use Rattle.bracket_poly.specs.Sizes.{KeyWithin}
+use Rattle.shuffle_meet.specs.Sizes.{IsWithin}
 use Rattle.bracket_poly.specs.declared.value.Value.{Value}
 use Rattle.shuffle_meet.specs.Objects.{AreJoined, AreMet, ProductsFit, ParameterFits, rows_of_join}
 use Rattle.shuffle_meet.proofs.ObjectSizes.{products_fit, parameter_fits}

@@ -13,7 +13,7 @@ use Rattle.bracket_terms.specs.declared.extensor.Extensor.{Extensor}
 use Rattle.bracket_terms.specs.Joins.{points_of, share_point, IsSignedUnion}
 use Rattle.bracket_terms.proofs.ExtensorLaws.{repeats-append, length-points_of}
 use Rattle.bracket_poly.specs.declared.error.PolyError.{PolyError}
-use Rattle.shuffle_meet.specs.Rows.{signed_row}
+use Rattle.bracket_terms.specs.Signed.{signed_row}
 use Rattle.shuffle_meet.specs.Adding.{AddsProducts}
 use Rattle.shuffle_meet.proofs.Added.{Polys, none_added, all_added}
 

@@ -17,7 +17,7 @@ use Rattle.bracket_poly.specs.declared.error.PolyError.{PolyError}
 use Rattle.bracket_poly.specs.Products.{IsSign}
 use Rattle.bracket_poly.specs.Values.{entry_of, extensor_size}
 use Rattle.bracket_poly.specs.Kept.{TrackedOf}
-use Rattle.shuffle_meet.specs.Rows.{signed_row}
+use Rattle.bracket_terms.specs.Signed.{signed_row}
 use Rattle.shuffle_meet.specs.Adding.{AddsProducts}
 use Rattle.shuffle_meet.specs.Objects.{meets_with}
 use Rattle.shuffle_meet.proofs.Added.{Polys}

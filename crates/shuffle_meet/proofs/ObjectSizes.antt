@@ -21,7 +21,8 @@ use Rattle.bracket_poly.specs.Kept.{TrackedOf}
 use Rattle.bracket_poly.specs.Products.{HasDegree, ExponentsFit}
 use Rattle.bracket_poly.proofs.Degrees.{exponents_fit}
 use Rattle.bracket_poly.specs.Values.{entry_of, value_of}
-use Rattle.shuffle_meet.specs.Sizes.{KeyWithin, EntryWithin, IsWithin}
+use Rattle.bracket_poly.specs.Sizes.{KeyWithin, EntryWithin}
+use Rattle.shuffle_meet.specs.Sizes.{IsWithin}
 use Rattle.shuffle_meet.specs.Stops.{tracked_entries}
 use Rattle.shuffle_meet.specs.Seen.{seen}
 use Rattle.shuffle_meet.specs.Objects.{AreJoined, ProductsFit, ParameterFits, joined, met, mixed, AddsSizes, MixesSizes, rows_of_join}

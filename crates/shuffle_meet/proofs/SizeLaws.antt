@@ -17,7 +17,8 @@ use Rattle.coordinate_model.specs.Starts.{Product, row_key, terms_of, reached, h
 use Rattle.coordinate_model.proofs.KeySets.{AllTerms, all_sum_of}
 use Rattle.coordinate_model.proofs.StartKeys.{keys-product, all_products_at}
 use Rattle.bracket_poly.specs.Tracked.{Tracked, has_met, nothing, plus_term, plus_terms}
-use Rattle.shuffle_meet.specs.Sizes.{KeyWithin, IsWithin, MetWithin}
+use Rattle.bracket_poly.specs.Sizes.{KeyWithin}
+use Rattle.shuffle_meet.specs.Sizes.{IsWithin, MetWithin}
 use Rattle.shuffle_meet.specs.Stops.{tracked_at, tracked_starts, tracked_entries}
 use Rattle.shuffle_meet.specs.Seen.{seen}
 use Rattle.shuffle_meet.proofs.SeenLaws.{Entries}

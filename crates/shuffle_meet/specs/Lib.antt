@@ -1,5 +1,4 @@
 pub mod Stops
-pub mod Rows
 pub mod Seen
 pub mod Adding
 pub mod Sizes

@@ -3,7 +3,7 @@ ghost use Rattle.std.specs.Prelude.{◌≡◌, ◌+◌, ◌++◌, length};
 ghost use Rattle.coordinate_model.specs.Sequences.{IsRank, at_places};
 ghost use Rattle.bracket_terms.specs.Joins.{points_of};
 ghost use Rattle.split_tables.specs.Masks.{places_of};
-ghost use Rattle.shuffle_meet.specs.Rows.{signed_row};
+ghost use Rattle.bracket_terms.specs.Signed.{signed_row};
 
 use bracket_terms::{Bracket, Extensor, Signed, sort};
 

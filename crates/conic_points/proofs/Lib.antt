@@ -1,0 +1,9 @@
+pub mod Steps
+pub mod Sums
+pub mod Graded
+pub mod Degrees
+pub mod RowSteps
+pub mod TermSteps
+pub mod Sixes
+pub mod SizeLaws
+pub mod FreePoints
