@@ -5,13 +5,13 @@ use Rattle.std.specs.List.{AllByRecursion}
 use Rattle.std.proofs.lemmas.List.{length-map}
 use lib.ListN.{length-append}
 use Rattle.coordinate_model.specs.Sequences.{IsRank, columns}
-use Rattle.coordinate_model.specs.Brackets.{join, six_point}
+use Rattle.coordinate_model.specs.Brackets.{join, six_point, join_bracket}
 use Rattle.coordinate_model.specs.Polynomial.{Polynomial, Polynomials, free_point, br}
 use Rattle.coordinate_model.specs.BracketPolynomial.{KeySums, mul, value}
 use Rattle.coordinate_model.specs.Syzygy.{sorted_bracket}
 use Rattle.coordinate_model.specs.Value.{Value, HasStep, coordinates, join_values}
 use Rattle.coordinate_model.specs.Starts.{Entry}
-use Rattle.coordinate_model.specs.Conics.{bracket_of_entries, bracket_of_values, value_bracket, conic_value, join_bracket}
+use Rattle.coordinate_model.specs.Conics.{bracket_of_entries, bracket_of_values, value_bracket, conic_value}
 use Rattle.coordinate_model.specs.Conics.{BracketOfValues, ConicOfValues}
 use Rattle.coordinate_model.proofs.Agreement.{same-joins}
 use Rattle.coordinate_model.proofs.BracketPolynomialLaws.{br-is, value-hom, value_of_sorted}
@@ -103,5 +103,5 @@ pub conic_of_values_law : ConicOfValues
 unfolding conic_value six_point
 conic_of_values_law p1 p2 p3 p4 p5 p6 h =
     six_point-hom KeySums Polynomials value-hom {P = PointValue} (λ p. coordinates p.0) (λ ps. value_bracket (map (λ p. p.0) ps))
-    join_bracket (λ p q r. bracket_of_values_law p.0 q.0 r.0 p.1 q.1 r.1) (p1, h.0) (p2, h.1.0) (p3, h.1.1.0)
+    (join_bracket Polynomials) (λ p q r. bracket_of_values_law p.0 q.0 r.0 p.1 q.1 r.1) (p1, h.0) (p2, h.1.0) (p3, h.1.1.0)
     (p4, h.1.1.1.0) (p5, h.1.1.1.1.0) (p6, h.1.1.1.1.1.0)

@@ -10,6 +10,11 @@ use Rattle.coordinate_model.specs.Sequences.{columns, is_odd, permutations, rang
 use Rattle.coordinate_model.specs.Sequences.{without, meets_in}
 use Rattle.coordinate_model.specs.Brackets.{Point, Coords, sum_over, signed, product, bracket, syzygy, of_point, join}
 use Rattle.coordinate_model.specs.Brackets.{join_points, extensor, meet, shuffle, on, three_term, six_point}
+use Rattle.coordinate_model.specs.Brackets.{join_bracket}
+use Rattle.coordinate_model.specs.Words.{product_of}
+use Rattle.coordinate_model.specs.Polynomial.{Monomial}
+use Rattle.coordinate_model.specs.Evaluation.{monomial_in, value_in}
+use Rattle.coordinate_model.specs.HomLaws.{coords_by, KeepsJoinBrackets, KeepsValues, Keeps}
 use Rattle.coordinate_model.specs.Sums.{Terms, sum_value}
 use Rattle.coordinate_model.proofs.Splits.{IsSplit, splits-are, range-below, length-range_from, length-at_places}
 
@@ -45,7 +50,7 @@ module _ (A B : Ops) {to : A.carrier → B.carrier} (h : IsHom A B to) where
   of_nat-hom zero = to_zero
   of_nat-hom (suc n) = to_add A.𝟙 (of_nat A n) ∙ ap₂ B.◌⊕◌ to_one (of_nat-hom n)
 
-  of_int-hom : (c : ℤ) → to (of_int A c) ≡ of_int B c
+  pub of_int-hom : (c : ℤ) → to (of_int A c) ≡ of_int B c
   of_int-hom (pos n) = of_nat-hom n
   of_int-hom (negsuc n) = to_neg (of_nat A (suc n)) ∙ ap B.neg (of_nat-hom (suc n))
 
@@ -222,3 +227,41 @@ module _ (A B : Ops) {to : A.carrier → B.carrier} (h : IsHom A B to) where
       to_add _ _
       ∙ ap₂ B.◌⊕◌ (mul-hom (mul-hom (mul-hom (e p1 p2 p3) (e p1 p4 p5)) (e p2 p4 p6)) (e p3 p5 p6))
       (to_neg _ ∙ ap B.neg (mul-hom (mul-hom (mul-hom (e p1 p2 p4) (e p1 p3 p5)) (e p2 p3 p6)) (e p4 p5 p6)))
+
+  -- the bracket of objects, and the six-point polynomial of their brackets
+  pub join_bracket-hom : KeepsJoinBrackets A B to
+  join_bracket-hom [] = to_zero
+  join_bracket-hom (X ∷ []) = to_zero
+  join_bracket-hom (X ∷ Y ∷ []) = to_zero
+  join_bracket-hom (X ∷ Y ∷ Z ∷ []) = join-hom 2 (join-hom 1 (λ I. refl) (λ I. refl)) (λ I. refl) (columns 3)
+  join_bracket-hom (X ∷ Y ∷ Z ∷ W ∷ Xs) = to_zero
+
+  product_of-hom : {X : Type 0} (g : X → A.carrier) (xs : List X)
+      → to (product_of A g xs) ≡ product_of B (λ x. to (g x)) xs
+  product_of-hom g [] = to_one
+  product_of-hom g (x ∷ xs) = mul-hom refl (product_of-hom g xs)
+
+  -- values of polynomials
+  pub value_in-hom : KeepsValues A B to
+  unfolding value_in
+  value_in-hom at p = sum_value-hom (monomial_in A at) (monomial_in B (λ v. to (at v))) p.terms (each p.terms)
+    where
+      each : (ts : Terms Monomial)
+          → AllByRecursion (λ t. to (monomial_in A at t.0) ≡ monomial_in B (λ v. to (at v)) t.0) ts
+      each [] = tt
+      each (t ∷ ts) = (product_of-hom at t.0.letters, each ts)
+
+  -- all that the contracts cite
+  pub hom_keeps : Keeps A B to
+  hom_keeps = record {
+    brackets = bracket-hom;
+    extensors = extensor-hom;
+    joins = λ a X Y. join-hom a (λ I. refl) (λ I. refl);
+    meets = λ d a b X Y. meet-hom d a b (λ I. refl) (λ I. refl);
+    combinations = λ s t X Y. on-hom refl refl (λ I. refl) (λ I. refl);
+    join_brackets = join_bracket-hom;
+    six_points =
+        six_point-hom (coords_by A B to) (join_bracket A) (join_bracket B)
+        (λ X Y Z. join_bracket-hom (X ∷ Y ∷ Z ∷ []));
+    values = value_in-hom;
+  }

@@ -2,7 +2,6 @@
 -- difference is left.
 use Rattle.std.specs.Prelude.{◌≡◌, ℕ, ◌<◌, Bool, true, not, cond, ◌&&◌, T, ℤ, pos, ◌+ℤ◌, neg_ℤ, [], ◌∷◌}
 use Rattle.std.specs.FinMap.{is_sorted}
-use Rattle.std.specs.FinMap.Entries.{below_all}
 use Rattle.std.specs.Cmp.{tied_itself}
 use Rattle.std.specs.Ordering.{is_gt, is_eq, ordering_reverse}
 use Rattle.std.specs.declared.cmp.Ordering.{Ordering}
@@ -15,22 +14,19 @@ use Rattle.coordinate_model.specs.Polynomial.{Monomial, monomial_cmp, Polynomial
 use Rattle.coordinate_model.specs.Key.{Key, key_cmp, key_value, key_lead, IsStandardKey}
 use Rattle.coordinate_model.specs.BracketPolynomial.{KeySums, BracketPolynomial, value, IsNormal}
 use Rattle.coordinate_model.specs.Sequences.{IsRank}
-use Rattle.coordinate_model.proofs.Bools.{both, first, second, less}
+use Rattle.coordinate_model.proofs.Bools.{both, first, second}
 use Rattle.coordinate_model.proofs.Ranks.{rank_pos}
-use Rattle.coordinate_model.proofs.SumLemmas.{count_first, nonzero_head, nonzero_tail, same_coefficients}
+use Rattle.coordinate_model.proofs.SumLemmas.{same_coefficients}
 use Rattle.coordinate_model.proofs.PolynomialRing.{polynomial_ring, monomial_total, monomial_same}
 use Rattle.coordinate_model.proofs.KeyProducts.{key_total, key_same}
 use Rattle.coordinate_model.proofs.BracketPolynomialLaws.{value-hom}
+use Rattle.coordinate_model.proofs.Members.{Mem, here, there, member_of_all, nonzero_member, count_member}
 use Rattle.coordinate_model.proofs.Leading.{Top-plus, Top-empty, count-plus, count-minus}
 use Rattle.coordinate_model.proofs.Diagonal.{HasTop, top_under, top_key, top_scaled}
 use Rattle.coordinate_model.proofs.Keys.{same_key}
 use Rattle.coordinate_model.proofs.KeySets.{AllTerms, all_plus, all_minus}
 
 -- ---- the key of the greatest monomial
-data Mem (e : Key × ℤ) : Terms Key → Type 0 where
-  here : {ts : Terms Key} → Mem e (e ∷ ts)
-  there : {t : Key × ℤ} {ts : Terms Key} → Mem e ts → Mem e (t ∷ ts)
-
 abbrev lm : Key × ℤ → Monomial
 lm t = key_lead t.0
 
@@ -87,32 +83,6 @@ greatest t (u ∷ us) =
     let g : Greatest (u ∷ us) = greatest u us in greater_of t (u ∷ us) g (monomial_cmp (lm t) (lm g.member)) refl
 
 -- ---- its coefficient
-all_member : (P : Key → Type 0) (e : Key × ℤ) (ts : Terms Key) → Mem e ts → AllTerms P ts → P e.0
-all_member P e [] m p = elim m [ ]
-all_member P e (t ∷ ts) here p = p.0
-all_member P e (t ∷ ts) (there m) p = all_member P e ts m p.1
-
-below_member : (x : Key) (e : Key × ℤ) (ts : Terms Key) → Mem e ts → T (below_all key_cmp x ts) → key_cmp x e.0 ≡ Less
-below_member x e [] m h = elim m [ ]
-below_member x e (t ∷ ts) here h = less _ (first _ _ h)
-below_member x e (t ∷ ts) (there m) h = below_member x e ts m (second _ _ h)
-
-zero_left : (z : ℤ) → pos 0 +ℤ z ≡ z
-zero_left z = omega (arith, ints)
-
-count_member : (e : Key × ℤ) (ts : Terms Key) → Mem e ts → T (is_sorted key_cmp ts) → count_at key_cmp e.0 ts ≡ e.1
-count_member e [] m h = elim m [ ]
-count_member e (t ∷ ts) here h = count_first key_cmp key_total key_same t ts (first _ _ h)
-count_member e (t ∷ ts) (there m) h =
-    ap (λ r. cond (is_eq r) t.1 (pos 0) +ℤ count_at key_cmp e.0 ts)
-    (key_total.antisymm e.0 t.0 ∙ ap ordering_reverse (below_member t.0 e ts m (first _ _ h)))
-    ∙ zero_left (count_at key_cmp e.0 ts) ∙ count_member e ts m (second _ _ h)
-
-nonzero_member : (e : Key × ℤ) (ts : Terms Key) → Mem e ts → T (has_no_zero ts) → e.1 ≡ pos 0 → ⊥
-nonzero_member e [] m h = elim m [ ]
-nonzero_member e (t ∷ ts) here h = nonzero_head key_cmp t.1 _ h
-nonzero_member e (t ∷ ts) (there m) h = nonzero_member e ts m (nonzero_tail key_cmp t.1 _ h)
-
 abbrev at_monomial : Monomial → Terms Key → ℤ
 at_monomial m [] = pos 0
 at_monomial m (t ∷ ts) = cond (is_eq (monomial_cmp (lm t) m)) t.1 (pos 0) +ℤ at_monomial m ts
@@ -179,11 +149,11 @@ module _ (d n : ℕ) (rank : IsRank d) where
   none_left (t ∷ ts) h g a e =
       let best : Greatest (t ∷ ts) = greatest t ts in
       let k = best.member.0 in
-      let s : IsStandardKey d n k = all_member (IsStandardKey d n) best.member (t ∷ ts) best.stands a in
+      let s : IsStandardKey d n k = member_of_all (λ e. IsStandardKey d n e.0) best.member (t ∷ ts) best.stands a in
       let top : HasTop (key_lead k) (at_monomial (key_lead k) (t ∷ ts))
       (sum_value Polynomials (key_value) (t ∷ ts)) = top_sum (key_lead k) (t ∷ ts) a best.above in
-      absurd (nonzero_member best.member (t ∷ ts) best.stands g
-      (sym (count_member best.member (t ∷ ts) best.stands h) ∙ sym (at_key k (t ∷ ts) s a) ∙ sym top.at
+      absurd (nonzero_member key_cmp best.member (t ∷ ts) best.stands g
+      (sym (count_member key_cmp key_total key_same best.member (t ∷ ts) best.stands h) ∙ sym (at_key k (t ∷ ts) s a) ∙ sym top.at
       ∙ ap (λ (f : Polynomial). count_at monomial_cmp (key_lead k) f.terms) e))
 
   -- two normal bracket polynomials with equal values are equal

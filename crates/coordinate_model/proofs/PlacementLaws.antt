@@ -1,5 +1,5 @@
 -- Values at a placement keep all that is defined by the operations of a ring.
-use Rattle.std.proofs.Common.{[], ◌∷◌, map, refl, ap, ◌∙◌}
+use Rattle.std.proofs.Common.{map, refl, ap, ◌∙◌}
 use Rattle.std.proofs.lemmas.Simd.{map-map}
 use Rattle.coordinate_model.specs.Ring.{Integers}
 use Rattle.coordinate_model.specs.Brackets.{bracket}
@@ -8,7 +8,7 @@ use Rattle.coordinate_model.specs.Placement.{Placement, point_at}
 use Rattle.coordinate_model.specs.PlacementLaws.{ValueOfZero, ValueOfVariable, ValueOfBracket, KeepsBrackets}
 use Rattle.coordinate_model.specs.PlacementLaws.{KeepsExtensors, KeepsJoins, KeepsMeets, KeepsCombinations}
 use Rattle.coordinate_model.specs.PlacementLaws.{KeepsSixPoint}
-use Rattle.coordinate_model.proofs.Hom.{bracket-hom, join-hom, meet-hom, extensor-hom, on-hom, six_point-hom}
+use Rattle.coordinate_model.proofs.Hom.{bracket-hom, join-hom, meet-hom, extensor-hom, on-hom, hom_keeps}
 use Rattle.coordinate_model.proofs.PolynomialRing.{value_at-hom, value_at-variable}
 
 module _ (at : Placement) where
@@ -42,6 +42,4 @@ module _ (at : Placement) where
       on-hom Polynomials Integers (value_at-hom at) refl refl (λ I. refl) (λ I. refl) K
 
   pub keeps_six_point : KeepsSixPoint at
-  keeps_six_point =
-      six_point-hom Polynomials Integers (value_at-hom at) (point_at at) (bracket Polynomials) (bracket Integers)
-      (λ p q r. keeps_brackets (p ∷ q ∷ r ∷ []))
+  keeps_six_point = (hom_keeps Polynomials Integers (value_at-hom at)).six_points

@@ -101,3 +101,8 @@ module _ (R : Ops) where
       let at = λ (p q r : P). br (p ∷ q ∷ r ∷ []) in
       at p1 p2 p3 ⊗ at p1 p4 p5 ⊗ at p2 p4 p6 ⊗ at p3 p5 p6
       ⊕ neg (at p1 p2 p4 ⊗ at p1 p3 p5 ⊗ at p2 p3 p6 ⊗ at p4 p5 p6)
+
+  -- the bracket of three objects of step 1 in rank 3: the coordinate of their join from the left at all columns
+  abbrev pub join_bracket : List Coords → carrier
+  join_bracket (A ∷ B ∷ C ∷ []) = join 2 (join 1 A B) C (columns 3)
+  join_bracket others = 𝟘

@@ -2,9 +2,8 @@
 -- sections 3.1 and 3.3).
 use Rattle.std.specs.Prelude.{◌≡◌, List, [], ◌∷◌, ◌++◌}
 use Rattle.std.specs.List.{AllByRecursion}
-use Rattle.coordinate_model.specs.Sequences.{columns}
-use Rattle.coordinate_model.specs.Brackets.{Coords, sum_over, join, six_point}
-use Rattle.coordinate_model.specs.Polynomial.{Polynomial, Polynomials}
+use Rattle.coordinate_model.specs.Brackets.{sum_over, six_point, join_bracket}
+use Rattle.coordinate_model.specs.Polynomial.{Polynomials}
 use Rattle.coordinate_model.specs.BracketPolynomial.{KeySums, BracketPolynomial, mul, value}
 use Rattle.coordinate_model.specs.Syzygy.{sorted_bracket}
 use Rattle.coordinate_model.specs.Value.{Value, HasStep, coordinates}
@@ -28,22 +27,17 @@ value_bracket others = KeySums.𝟘
 unfoldable pub conic_value : (p1 p2 p3 p4 p5 p6 : Value) → BracketPolynomial
 conic_value = six_point KeySums value_bracket
 
--- the bracket of three points by their coordinates: the coordinate of their join from the left at all columns
-abbrev pub join_bracket : List (Coords Polynomials) → Polynomial
-join_bracket (A ∷ B ∷ C ∷ []) = join Polynomials 2 (join Polynomials 1 A B) C (columns 3)
-join_bracket others = Polynomials.𝟘
-
 -- the value of the bracket of three points is the bracket of their coordinates
 abbrev pub BracketOfValues : Type 0
 BracketOfValues =
     (A B C : Value) → HasStep 1 A → HasStep 1 B → HasStep 1 C
     → value (bracket_of_values A B C)
-    ≡ join Polynomials 2 (join Polynomials 1 (coordinates A) (coordinates B)) (coordinates C) (columns 3)
+    ≡ join_bracket Polynomials (coordinates A ∷ coordinates B ∷ coordinates C ∷ [])
 
 -- and so it is for the six-point polynomial
 abbrev pub ConicOfValues : Type 0
 ConicOfValues =
     (p1 p2 p3 p4 p5 p6 : Value) → AllByRecursion (HasStep 1) (p1 ∷ p2 ∷ p3 ∷ p4 ∷ p5 ∷ p6 ∷ [])
     → value (conic_value p1 p2 p3 p4 p5 p6)
-    ≡ six_point Polynomials join_bracket (coordinates p1) (coordinates p2) (coordinates p3) (coordinates p4) (coordinates p5)
-    (coordinates p6)
+    ≡ six_point Polynomials (join_bracket Polynomials) (coordinates p1) (coordinates p2) (coordinates p3) (coordinates p4)
+    (coordinates p5) (coordinates p6)

@@ -8,12 +8,17 @@ pub mod Key
 pub mod BracketPolynomial
 pub mod Syzygy
 pub mod Value
+pub mod Evaluation
+pub mod HomLaws
+pub mod Numbers
 pub mod Placement
 pub mod SyzygyLaws
 pub mod ObjectLaws
 pub mod NormalLaws
 pub mod PlacementLaws
+pub mod NumberLaws
 pub mod Starts
 pub mod StartLaws
 pub mod Conics
+pub mod Weights
 pub mod Code

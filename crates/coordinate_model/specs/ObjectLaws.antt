@@ -1,9 +1,10 @@
 -- The laws of extensors, joins and meets, as the contracts cite them (Sturmfels, Algorithms in Invariant Theory,
 -- section 3.3).
-use Rattle.std.specs.Prelude.{◌≡◌, ℕ, ◌+◌, ◌-◌, ◌≤◌, ◌<◌, List, ◌++◌, map, length, All, IsTrue}
+use Rattle.std.specs.Prelude.{◌≡◌, ℕ, ◌+◌, ◌-◌, ◌≤◌, ◌<◌, List, [], ◌∷◌, ◌++◌, map, length, All, IsTrue}
 use Rattle.coordinate_model.specs.Ring.{Ops}
 use Rattle.coordinate_model.specs.Sequences.{IsRank, columns, subsets, repeats}
 use Rattle.coordinate_model.specs.Brackets.{Point, Coords, signed, bracket, join, extensor, meet, shuffle, on}
+use Rattle.coordinate_model.specs.Brackets.{of_point, join_bracket}
 use Rattle.coordinate_model.specs.Polynomial.{Polynomials, free_point}
 use Rattle.coordinate_model.specs.BracketPolynomial.{BracketPolynomial, value}
 use Rattle.coordinate_model.specs.Syzygy.{sorted}
@@ -14,6 +15,12 @@ use Rattle.coordinate_model.specs.Value.{meet_values}
 abbrev pub FullExtensor : Ops → Type 0
 FullExtensor R =
     (ps : List (Point R)) → IsRank (length ps) → extensor R ps (columns (length ps)) ≡ bracket R ps
+
+-- the bracket of three points, taken as objects of step 1, is their bracket
+abbrev pub JoinBracketOfPoints : Ops → Type 0
+JoinBracketOfPoints R =
+    (p q r : Point R)
+    → join_bracket R (of_point R p ∷ of_point R q ∷ of_point R r ∷ []) ≡ bracket R (p ∷ q ∷ r ∷ [])
 
 -- the extensor of a sequence of free points is its sign times the extensor of the sorted sequence
 abbrev pub SortedExtensor : Type 0

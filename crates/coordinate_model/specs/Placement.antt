@@ -1,11 +1,9 @@
--- Placements: an integer for every coordinate and parameter, and the values of polynomials there (the evaluation of a
--- polynomial, as in any algebra textbook).
+-- Placements: an integer for every coordinate and parameter, and the values of polynomials there.
 use Rattle.std.specs.Prelude.{ℕ, ℤ}
 use Rattle.coordinate_model.specs.Ring.{Integers}
 use Rattle.coordinate_model.specs.Brackets.{Point, Coords}
-use Rattle.coordinate_model.specs.Words.{product_of}
-use Rattle.coordinate_model.specs.Sums.{sum_value}
-use Rattle.coordinate_model.specs.Polynomial.{Variable, coordinate, Monomial, Polynomial, Polynomials}
+use Rattle.coordinate_model.specs.Polynomial.{Variable, coordinate, Polynomial, Polynomials}
+use Rattle.coordinate_model.specs.Evaluation.{value_in}
 
 -- an integer for every variable
 abbrev pub Placement : Type 0
@@ -15,13 +13,9 @@ Placement = Variable → ℤ
 abbrev pub placed_point : Placement → ℕ → Point Integers
 placed_point at i j = at (coordinate i j)
 
--- the value of a monomial: the product of the integers of its variables
-abbrev pub monomial_at : Placement → Monomial → ℤ
-monomial_at at m = product_of Integers at m.letters
-
--- the value of a polynomial: the sum of the integers times the values of the monomials
-unfoldable pub value_at : Placement → Polynomial → ℤ
-value_at at p = sum_value Integers (monomial_at at) p.terms
+-- the value of a polynomial at the placement
+abbrev pub value_at : Placement → Polynomial → ℤ
+value_at at = value_in Integers at
 
 -- the point at a placement
 abbrev pub point_at : Placement → Point Polynomials → Point Integers

@@ -1,15 +1,18 @@
 // The laws of the definitions. Each function does nothing; its clauses are what the definitions must give.
-ghost use Rattle.std.specs.Prelude.{ℕ};
+ghost use Rattle.std.specs.Prelude.{ℕ, ℤ};
 ghost use Rattle.coordinate_model.specs.Ring.{Integers, IsCommRing, IsHom};
-ghost use Rattle.coordinate_model.specs.Polynomial.{Polynomials};
+ghost use Rattle.coordinate_model.specs.Polynomial.{Variable, Polynomial, Polynomials};
 ghost use Rattle.coordinate_model.specs.Key.{Key};
 ghost use Rattle.coordinate_model.specs.BracketPolynomial.{KeySums, value};
+ghost use Rattle.coordinate_model.specs.HomLaws.{Evaluates, Keeps};
+ghost use Rattle.coordinate_model.specs.Evaluation.{value_in};
 ghost use Rattle.coordinate_model.specs.Placement.{Placement, value_at};
 ghost use Rattle.coordinate_model.specs.SyzygyLaws.{SortedBracket, ZeroBracket, NonzeroBracket, ValueOfSorted};
 ghost use Rattle.coordinate_model.specs.SyzygyLaws.{SyzygyLaw, SyzygyOfFreePoints, ValueOfSyzygy, ValueOfMultiple};
 ghost use Rattle.coordinate_model.specs.SyzygyLaws.{PointsOfSyzygy, PointsOfMultiple};
 ghost use Rattle.coordinate_model.specs.SyzygyLaws.{ThreeTerms, ThreeTermsOfFreePoints};
 ghost use Rattle.coordinate_model.specs.ObjectLaws.{SortedExtensor, ZeroExtensor, FullExtensor, JoinLaw, LinearJoins};
+ghost use Rattle.coordinate_model.specs.ObjectLaws.{JoinBracketOfPoints};
 ghost use Rattle.coordinate_model.specs.ObjectLaws.{ShuffleLaw, MeetValue, LinearMeets, SameJoins, SameMeets};
 ghost use Rattle.coordinate_model.specs.ObjectLaws.{CombinationOfValues, JoinOfValues, MeetOfValues};
 ghost use Rattle.coordinate_model.specs.StartLaws.{StartsOfJoin, StartsOfMeet, StartsOfOn, ValueOfParameter};
@@ -21,6 +24,11 @@ ghost use Rattle.coordinate_model.specs.NormalLaws.{LexicographicOrder, Greatest
 ghost use Rattle.coordinate_model.specs.PlacementLaws.{ValueOfZero, ValueOfVariable, ValueOfBracket};
 ghost use Rattle.coordinate_model.specs.PlacementLaws.{KeepsBrackets, KeepsExtensors, KeepsJoins, KeepsMeets};
 ghost use Rattle.coordinate_model.specs.PlacementLaws.{KeepsCombinations, KeepsSixPoint};
+ghost use Rattle.coordinate_model.specs.Weights.{ValueOfSpecial, SpecialIsNormal};
+ghost use Rattle.coordinate_model.specs.NumberLaws.{PutInNone, PutInBoth, PutInTurn, ValueOfPutIn, IsDegree};
+ghost use Rattle.coordinate_model.specs.NumberLaws.{NonzeroProduct, HasLeastNumber, LeastNumberBound, HasLeastNumbers};
+ghost use Rattle.coordinate_model.specs.NumberLaws.{LeastNumbersBound, LeastNumbersValue, HasNonzeroPlacement};
+ghost use Rattle.coordinate_model.specs.NumberLaws.{ZeroEverywhere, ValueWithoutVariables};
 
 /// Coordinate polynomials are a commutative ring, and equal where every coefficient is.
 pub fn polynomials()
@@ -74,11 +82,13 @@ pub fn three_terms()
 {}
 
 /// An extensor is its sign times that of the sorted points, and zero where a point comes twice. That of d points is
-/// their bracket, at all columns.
+/// their bracket, at all columns; so is that of three points as objects.
 pub fn extensors()
     ensures sorted { SortedExtensor }
     ensures zero { ZeroExtensor }
     ensures brackets { FullExtensor Polynomials }
+    ensures placed { JoinBracketOfPoints Integers }
+    ensures objects { JoinBracketOfPoints Polynomials }
 {}
 
 /// The join of two extensors is the extensor of their points. Joins are linear in each object, and told by its
@@ -107,8 +117,8 @@ pub fn objects()
     ensures meets { MeetOfValues }
 {}
 
-/// The starts of joins, meets and combinations have the coordinates of those objects, and so they have without the entries
-/// that lack a term. The value of a parameter is its variable.
+/// The starts of joins, meets and combinations have the coordinates of those objects, and so they have without the
+/// entries that lack a term. The value of a parameter is its variable.
 pub fn starts()
     ensures joins { StartsOfJoin }
     ensures meets { StartsOfMeet }
@@ -141,6 +151,15 @@ pub fn independence()
     ensures { Independent }
 {}
 
+/// Values of coordinate polynomials in a ring keep the operations, and so brackets, extensors, joins, meets,
+/// combinations, six-point polynomials and values: values that are integers, and values that are polynomials again.
+pub fn evaluations()
+    ensures integers { (at : Variable → ℤ) → Evaluates Integers at }
+    ensures polynomials { (at : Variable → Polynomial) → Evaluates Polynomials at }
+    ensures placed { (at : Variable → ℤ) → Keeps Polynomials Integers (value_in Integers at) }
+    ensures put_in { (at : Variable → Polynomial) → Keeps Polynomials Polynomials (value_in Polynomials at) }
+{}
+
 /// Values at a placement keep the operations of coordinate polynomials.
 pub fn placements()
     ensures zero { (at : Placement) → ValueOfZero at }
@@ -157,4 +176,44 @@ pub fn placed_objects()
     ensures meets { (at : Placement) → KeepsMeets at }
     ensures combinations { (at : Placement) → KeepsCombinations at }
     ensures six_points { (at : Placement) → KeepsSixPoint at }
+{}
+
+/// Numbers that are put in for some of the variables may be put in one after the other, or at once.
+pub fn numbers()
+    ensures none { PutInNone }
+    ensures both { PutInBoth }
+    ensures in_turn { PutInTurn }
+    ensures value { ValueOfPutIn }
+{}
+
+/// Numbers that are put in for some parameters of a bracket polynomial are put in for them in its value, and keep it
+/// normal.
+pub fn weights()
+    ensures value { ValueOfSpecial }
+    ensures normal { SpecialIsNormal }
+{}
+
+/// The degree in a variable is told by the coefficients, and does not grow where numbers are put in. A
+/// polynomial without variables is an integer. A product of polynomials that are not zero is not zero.
+pub fn degrees()
+    ensures degree { (v : Variable) → (p : Polynomial) → IsDegree v p }
+    ensures constant { ValueWithoutVariables }
+    ensures product { NonzeroProduct }
+{}
+
+/// With the earlier numbers put in, a polynomial that is not zero has a least whole number for each variable with
+/// which it stays so, and it is at most the degree. At these numbers its value is not 0.
+pub fn least_numbers()
+    ensures number { HasLeastNumber }
+    ensures bound { LeastNumberBound }
+    ensures numbers { HasLeastNumbers }
+    ensures bounds { LeastNumbersBound }
+    ensures value { LeastNumbersValue }
+{}
+
+/// A polynomial that is not zero has a placement at which its value is not 0, where each variable has a whole number
+/// from 0 to its degree. So a polynomial with the value 0 at every placement is zero.
+pub fn nonzero_placements()
+    ensures placement { HasNonzeroPlacement }
+    ensures everywhere { ZeroEverywhere }
 {}
