@@ -1,13 +1,16 @@
 -- A line that is refused has that fault, and none before it.
-use Rattle.std.proofs.Common.{◌≡◌, ℕ, ◌+◌, ◌<◌, Bool, true, false, not, List, [], ◌∷◌, ◌++◌, drop, length, map, Ok, Err, refl, sym, ap, subst, ◌∙◌, arith, codes, nat_lt, inl, inr, ◌⊎◌}
+use Rattle.std.proofs.Common.{◌≡◌, ℕ, ◌+◌, ◌<◌, Bool, true, false, not, List, [], ◌∷◌, ◌++◌, drop, length, map, Ok, Err, refl, sym, ap, subst, ◌∙◌, arith, codes, lit<, nat_lt, inl, inr, ◌⊎◌}
+use Rattle.std.specs.Prelude.{decimal}
 use Rattle.std.specs.List.{list_any}
 use Rattle.std.proofs.lemmas.Bool.{ltb-true}
+use Rattle.std.proofs.lemmas.Fmt.{decimal_digit}
 use Rattle.std.proofs.lemmas.List.{map-append}
 use Rattle.construction_reader.specs.declared.fault.Kind.{Kind}
 use Rattle.construction_reader.specs.declared.fault.Kind.TheVariants.{Byte, LongName, NoHeader, AfterConclusion, Keyword, Deep, Shape, TooMany}
 use Rattle.construction_reader.specs.declared.state.Stage.{Stage}
 use Rattle.construction_reader.specs.declared.state.Stage.TheVariants.{Empty, Named, Going, Concluded}
-use Rattle.construction_reader.specs.Words.{tokens_of}
+use Rattle.construction_reader.specs.Rules.{version_1, IsRankBy}
+use Rattle.construction_reader.specs.Tokens.{tokens_of}
 use Rattle.construction_reader.specs.Said.{Sentence}
 use Rattle.construction_reader.specs.Lines.{content, is_clean, is_long, line_tokens, has_keyword, is_deep}
 use Rattle.construction_reader.specs.Params.{with_params}
@@ -17,7 +20,7 @@ use Rattle.construction_reader.specs.Grammar.{sentence_tokens, free_names, defin
 use Rattle.construction_reader.specs.Faults.{spoken, IsWrongHeader, IsShapeless, Say, PassesLimit, IsBehindHeader, IsWrong, HasFault, kinds, IsFirst}
 use Rattle.construction_reader.proofs.ObjectLaws.{bind_ok, ok_is, chosen}
 use Rattle.construction_reader.proofs.SentenceLaws.{sentence_takes}
-use Rattle.construction_reader.proofs.SentenceAgain.{shaped_again}
+use Rattle.construction_reader.proofs.SentenceAgain.{three_or_four, shaped_again}
 use Rattle.construction_reader.proofs.ShapeLaws.{shaped_by}
 use Rattle.construction_reader.proofs.TextLaws.{not_err, not_false, tokens_cases}
 use Rattle.construction_reader.proofs.FineLines.{failed_is, bind_err, spoken-blank, spoken-full, each-snoc, IsGoing, StateOf, IsFine, IsLine, fine_blank, no_header, sums, not_two, full_ok}
@@ -51,6 +54,19 @@ refused_first n bytes t ts earlier p kind of state e =
           (failed_is {A = Progress} NoHeader kind other.1, (omega arith, wrong)))
     ]
 
+-- they say no rank
+no_rank : (tokens : List (List ℕ)) → is_two (codes "rank") (codes "3") tokens ≡ false
+    → is_two (codes "rank") (codes "4") tokens ≡ false → (rank : ℕ) → IsRankBy version_1 rank
+    → tokens ≡ codes "rank" ∷ decimal rank ∷ [] → ⊥
+no_rank tokens no_three no_four rank ranked says =
+    let said : List ℕ → List (List ℕ) = λ digit. codes "rank" ∷ digit ∷ [] in
+    elim (three_or_four rank ranked.0 ranked.1) [
+      | inl three ↦ not_two (codes "rank") (codes "3") tokens no_three
+          (says ∙ ap (λ d. said (decimal d)) three ∙ ap said (decimal_digit 3 (lit< tt)))
+      | inr four ↦ not_two (codes "rank") (codes "4") tokens no_four
+          (says ∙ ap (λ d. said (decimal d)) four ∙ ap said (decimal_digit 4 (lit< tt)))
+    ]
+
 refused_second : (n : ℕ) (bytes t : List ℕ) (ts : List (List ℕ)) (earlier : List (List (List ℕ))) (p : Progress)
     (kind : Kind) → IsLine bytes (t ∷ ts) → StateOf Named earlier p → full_line Named n (t ∷ ts) p ≡ Err kind
     → IsFault earlier bytes (t ∷ ts) kind
@@ -62,10 +78,7 @@ refused_second n bytes t ts earlier p kind of state e =
         | inl it ↦ let never = it.1 in absurd cc
         | inr neither ↦
             let wrong : IsWrongHeader earlier (t ∷ ts) =
-            subst (λ ls. IsWrongHeader ls (t ∷ ts)) (sym state.lines) (
-              not_two (codes "rank") (codes "3") (t ∷ ts) other.0,
-              not_two (codes "rank") (codes "4") (t ∷ ts) neither.0,
-            ) in
+            subst (λ ls. IsWrongHeader ls (t ∷ ts)) (sym state.lines) (no_rank (t ∷ ts) other.0 neither.0) in
             from_header earlier bytes (t ∷ ts) kind of
             (inl (failed_is {A = Progress} NoHeader kind neither.1, (omega arith, wrong)))
       ]
@@ -78,7 +91,7 @@ refused_after bytes t ts [] p kind of state e = absurd (omega (arith, state.0))
 refused_after bytes t ts (first ∷ []) p kind of state e = absurd (omega (arith, state.0))
 refused_after bytes t ts (first ∷ second ∷ others) p kind of state e =
     from_header (first ∷ second ∷ others) bytes (t ∷ ts) kind of
-    (inr ((λ wrong. wrong.1), inl (sym e, ((omega arith, omega arith), state.1))))
+    (inr ((λ wrong. wrong.1), inl (sym e, ((omega arith, omega arith), state.1, refl))))
 
 passed_limit : (s : Sentence) (p : Progress) (kind : Kind) → counts s p ≡ Err kind → (kind ≡ TooMany)
     × ((200 < p.free + free_names s) ⊎ ((2000 < p.definitions + definitions s)
@@ -105,7 +118,7 @@ passes : (earlier : List (List (List ℕ))) (p : Progress) (s : Sentence) (g : I
 passes earlier p s g (inl many) = let sum = sums earlier p s g in inl (omega (arith, many, sum.free))
 passes earlier p s g (inr (inl many)) = let sum = sums earlier p s g in inr (inl (omega (arith, many, sum.definitions)))
 passes earlier p s g (inr (inr many)) = let sum = sums earlier p s g in
-    inr (inr (omega (arith, many, ap length sum.params)))
+    inr (inr (inl (omega (arith, many, ap length sum.params))))
 
 refused_sentence : (n : ℕ) (bytes t : List ℕ) (ts : List (List ℕ)) (earlier : List (List (List ℕ))) (p : Progress)
     (kind : Kind) → IsLine bytes (t ∷ ts) → StateOf Going earlier p → full_line Going n (t ∷ ts) p ≡ Err kind

@@ -1,7 +1,8 @@
 -- A line that is read has no fault.
-use Rattle.std.proofs.Common.{◌≡◌, ℕ, ◌+◌, ◌≤◌, ◌<◌, Bool, true, false, not, List, [], ◌∷◌, ◌++◌, drop, length, length-append, map, Result, Ok, Err, refl, sym, ap, subst, ◌∙◌, arith, codes, inl, inr, ◌⊎◌}
+use Rattle.std.proofs.Common.{◌≡◌, ℕ, ◌+◌, ◌≤◌, ◌<◌, Bool, true, false, not, List, [], ◌∷◌, ◌++◌, drop, length, length-append, map, Result, Ok, Err, refl, sym, ap, subst, ◌∙◌, arith, codes, lit<, inl, inr, ◌⊎◌}
 use Rattle.std.specs.Prelude.{sum_by}
 use Rattle.std.specs.List.{AllByRecursion, list_any}
+use Rattle.std.proofs.lemmas.Fmt.{decimal_digit}
 use Rattle.std.proofs.lemmas.List.{append-nil, map-append}
 use Rattle.std.proofs.lemmas.List.Sums.{sum_by-cons, sum_by-append}
 use Rattle.std.proofs.lemmas.List.Folds.{list_any-append}
@@ -12,16 +13,17 @@ use Rattle.construction_reader.specs.declared.types.ObjectKind.TheVariants.{Poin
 use Rattle.construction_reader.specs.declared.state.Stage.{Stage}
 use Rattle.construction_reader.specs.declared.state.Stage.TheVariants.{Empty, Named, Going, Concluded}
 use Rattle.construction_reader.specs.Outcome.{◌>>=◌}
-use Rattle.construction_reader.specs.Words.{tokens_of}
+use Rattle.construction_reader.specs.Tokens.{tokens_of}
 use Rattle.construction_reader.specs.Said.{Sentence}
 use Rattle.construction_reader.specs.Lines.{content, is_clean, is_long, has_keyword, is_deep}
 use Rattle.construction_reader.specs.Sentences.{shaped, sentence_at}
 use Rattle.construction_reader.specs.Texts.{Progress, counts, adds, is_two, full_line}
-use Rattle.construction_reader.specs.Grammar.{sentence_tokens, IsSentence, is_conclusion, free_names, definitions, params_with, params_of}
+use Rattle.construction_reader.specs.Grammar.{sentence_tokens, IsSentence, is_conclusion, free_names, definitions, conclusions, params_with, params_of}
 use Rattle.construction_reader.specs.Faults.{unless_blank, spoken, concludes, IsWrongHeader, Say, PassesLimit, IsWrong}
 use Rattle.construction_reader.proofs.ObjectLaws.{bind_ok, done, ok_is, chosen, is_itself}
 use Rattle.construction_reader.proofs.SentenceLaws.{sentence_takes}
 use Rattle.construction_reader.proofs.SentenceAgain.{shaped_again}
+use Rattle.construction_reader.proofs.ConclusionLaws.{counts_once, counts_none}
 use Rattle.construction_reader.proofs.TextLaws.{IsWithin, Pushed, counted, pushed, sentence_cases, not_err, not_false}
 use Rattle.construction_reader.proofs.WholeTexts.{IsFresh, two_is}
 
@@ -113,6 +115,7 @@ pub record IsGoing (earlier : List (List (List ℕ))) (p : Progress) : Type 0 wh
   pub free : p.free ≡ sum_by free_names sentences
   pub definitions : p.definitions ≡ sum_by definitions sentences
   pub params : p.params ≡ params_of [] sentences
+  pub open_count : sum_by conclusions sentences ≡ 0
   pub within : IsWithin p
 
 abbrev pub StateOf : Stage → List (List (List ℕ)) → Progress → Type 0
@@ -190,8 +193,10 @@ passes_none earlier p q n s g more (inl many) = let sum = sums earlier p s g in
     omega (arith, many, sum.free, more.free, more.within.free)
 passes_none earlier p q n s g more (inr (inl many)) = let sum = sums earlier p s g in
     omega (arith, many, sum.definitions, more.definitions, more.within.definitions)
-passes_none earlier p q n s g more (inr (inr many)) = let sum = sums earlier p s g in
+passes_none earlier p q n s g more (inr (inr (inl many))) = let sum = sums earlier p s g in
     omega (arith, many, ap length sum.params, ap length more.params, more.within.params)
+passes_none earlier p q n s g more (inr (inr (inr many))) =
+    omega (arith, many, sum-snoc conclusions g.sentences s, g.open_count, counts_once s)
 
 -- a sentence that the limits leave room for
 fine_sentence : (earlier : List (List (List ℕ))) (bytes : List ℕ) (tokens : List (List ℕ)) (p q : Progress) (n : ℕ)
@@ -281,6 +286,7 @@ rank_read bytes t ts earlier p q d digit of state tokens right e =
       free = state.fresh.free;
       definitions = state.fresh.definitions;
       params = state.fresh.params;
+      open_count = refl;
       within = record {
         free = omega (arith, state.fresh.free);
         definitions = omega (arith, state.fresh.definitions);
@@ -302,14 +308,16 @@ read_second n bytes t ts earlier p q of state e =
           let tokens : t ∷ ts ≡ rank_tokens (codes "3") = two_is (codes "rank") (codes "3") (t ∷ ts) three.0 in
           let right : IsWrongHeader earlier (t ∷ ts) → ⊥ =
           λ wrong. let at : IsWrongHeader (state.first ∷ []) (t ∷ ts) =
-          subst (λ ls. IsWrongHeader ls (t ∷ ts)) state.lines wrong in at.0 tokens in
+          subst (λ ls. IsWrongHeader ls (t ∷ ts)) state.lines wrong in
+          at 3 (omega arith, omega arith) (tokens ∙ ap rank_tokens (sym (decimal_digit 3 (lit< tt)))) in
           rank_read bytes t ts earlier p q 3 (codes "3") of state tokens right three.1
       | inr other ↦ elim (chosen (is_two (codes "rank") (codes "4") (t ∷ ts)) _ _ (Ok q) other.1) [
         | inl four ↦
             let tokens : t ∷ ts ≡ rank_tokens (codes "4") = two_is (codes "rank") (codes "4") (t ∷ ts) four.0 in
             let right : IsWrongHeader earlier (t ∷ ts) → ⊥ =
             λ wrong. let at : IsWrongHeader (state.first ∷ []) (t ∷ ts) =
-            subst (λ ls. IsWrongHeader ls (t ∷ ts)) state.lines wrong in at.1 tokens in
+            subst (λ ls. IsWrongHeader ls (t ∷ ts)) state.lines wrong in
+            at 4 (omega arith, omega arith) (tokens ∙ ap rank_tokens (sym (decimal_digit 4 (lit< tt)))) in
             rank_read bytes t ts earlier p q 4 (codes "4") of state tokens right four.1
         | inr neither ↦ let never = neither.1 in absurd cc
       ]
@@ -344,6 +352,7 @@ state_behind n t ts earlier p q s g says good more =
             free = more.free ∙ sum.free;
             definitions = more.definitions ∙ sum.definitions;
             params = more.params ∙ sum.params;
+            open_count = omega (arith, sum-snoc conclusions g.sentences s, g.open_count, counts_none s other.0);
             within = more.within;
           } in
           subst (λ stage. StateOf stage (earlier ++ (t ∷ ts) ∷ []) q) (sym at) going

@@ -1,7 +1,7 @@
 -- What a text gives stands on rising lines behind the header.
 use Rattle.std.proofs.Common.{◌≡◌, ℕ, ◌+◌, ◌≤◌, List, [], ◌∷◌, Ok, sym, ap, subst, ◌∙◌, arith, codes, inl, inr}
 use Rattle.std.specs.Prelude.{decimal}
-use Rattle.construction_reader.specs.Words.{tokens_of}
+use Rattle.construction_reader.specs.Tokens.{tokens_of}
 use Rattle.construction_reader.specs.Said.{Row, Account}
 use Rattle.construction_reader.specs.Lines.{lines_of, content}
 use Rattle.construction_reader.specs.Texts.{read_of}
@@ -58,7 +58,7 @@ rises_lower : (m n : ℕ) (rows : List Row) → m ≤ n → RisesFrom n rows →
 rises_lower m n [] low rising = tt
 rises_lower m n (row ∷ rows) low rising = (omega (arith, rising.0), rising.1)
 
-pub text_of-given : (text : List ℕ) (c : Account) → TextOf text c → IsGiven c.rank c.rows
+pub text_of-given : (text : List ℕ) (c : Account) → TextOf text c → IsGiven c
 text_of-given text c of =
     let one = numbered 1 (lines_of text) of.first (codes "construction" ∷ codes "1" ∷ []) _ of.says in
     let two = numbered (of.first + 1) one.1.0 of.second (codes "rank" ∷ decimal c.rank ∷ []) (said c.rows) one.1.1 in
@@ -68,5 +68,5 @@ text_of-given text c of =
           (rises (of.second + 1) two.1.0 c.rows two.1.1);
     }
 
-pub reads_given : (text : List ℕ) (c : Account) → read_of text ≡ Ok c → IsGiven c.rank c.rows
+pub reads_given : (text : List ℕ) (c : Account) → read_of text ≡ Ok c → IsGiven c
 reads_given text c e = text_of-given text c (read_takes text c e)

@@ -2,7 +2,7 @@
 use Rattle.std.proofs.Common.{◌≡◌, ℕ, zero, suc, ◌+◌, ◌-◌, List, [], ◌∷◌, ◌++◌, refl, sym, ap, subst, ◌∙◌, arith, codes}
 use Rattle.std.specs.Prelude.{decimal}
 use Rattle.std.specs.List.{AllByRecursion}
-use Rattle.construction_reader.specs.Words.{tokens_of}
+use Rattle.construction_reader.specs.Tokens.{tokens_of, tokens_by}
 use Rattle.construction_reader.specs.Said.{Row, Account, sentences_of}
 use Rattle.construction_reader.specs.Lines.{lines_of, content}
 use Rattle.construction_reader.specs.Grammar.{sentence_tokens, IsSentence, RisesFrom, IsGiven}
@@ -26,7 +26,7 @@ pub record SaysFrom (n : ℕ) (lines : List (List ℕ)) (rows : List Row) : Type
   pub says : full_lines n lines ≡ said rows
 
 no_tokens : tokens_of (content []) ≡ []
-unfolding tokens_of
+unfolding tokens_by
 no_tokens = ap tokens_of (content-clean [] refl)
 
 blank_line : (rest : List ℕ) → lines_of (10 ∷ rest) ≡ [] ∷ lines_of rest
@@ -34,7 +34,7 @@ unfolding lines_of
 blank_line rest = refl
 
 clean_blank : IsClean []
-unfolding tokens_of
+unfolding tokens_by
 clean_blank = rw (content-clean [] refl) (refl, refl)
 
 blank_step : (k n : ℕ) (rest : List ℕ) (rows : List Row) → SaysFrom (n + k) (lines_of rest) rows
@@ -68,7 +68,7 @@ says_body n (row ∷ rows) rising each =
     blank_step (row.line - n) n (line_text tokens ++ text) (row ∷ rows)
     (subst (λ m. SaysFrom m (lines_of (line_text tokens ++ text)) (row ∷ rows)) (sym at) here)
 
-pub given_text : (c : Account) → IsGiven c.rank c.rows → (text : List ℕ) × TextOf text c
+pub given_text : (c : Account) → IsGiven c → (text : List ℕ) × TextOf text c
 given_text c given =
     let two = codes "rank" ∷ decimal c.rank ∷ [] in
     let short_two = short-rank c.rank given.good.ranked.0 given.good.ranked.1 in

@@ -10,6 +10,7 @@ pub mod SpacedSteps
 pub mod SentenceLaws
 pub mod SentenceAgain
 pub mod SpacedLaws
+pub mod ConclusionLaws
 pub mod TextLaws
 pub mod WholeTexts
 pub mod GivenLaws

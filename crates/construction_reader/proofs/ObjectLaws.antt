@@ -7,7 +7,7 @@ use Rattle.construction_reader.specs.declared.fault.Kind.TheVariants.{Shape}
 use Rattle.construction_reader.specs.Outcome.{◌>>=◌}
 use Rattle.construction_reader.specs.Words.{◌is◌, is_name}
 use Rattle.construction_reader.specs.Said.{Object}
-use Rattle.construction_reader.specs.Objects.{token_at, name_at, after_word, named_at, pair_of, pair_at, object_at}
+use Rattle.construction_reader.specs.Objects.{token_at, name_at, after_word, named_at, both_at, pair_of, pair_at, object_at}
 use Rattle.construction_reader.specs.Grammar.{object_tokens, nesting, HasNames}
 
 -- ---- steps
@@ -99,13 +99,38 @@ named_takes room tokens x e =
     subst (λ (y : Object × List (List ℕ)). Says room tokens y.0 y.1) (ok_is made x a.2)
     (record { parts = t.0; names = t.1; room_for = omega arith })
 
+pub record SaysBoth (room : ℕ) (tokens : List (List ℕ)) (a b : Object) (rest : List (List ℕ)) : Type 0 where
+  pub parts : tokens ≡ object_tokens a ++ (object_tokens b ++ rest)
+  pub names : HasNames a × HasNames b
+  pub room_for : (nesting a ≤ room) × (nesting b ≤ room)
+
+-- two objects, where each is read as it says
+pub both_take : (room : ℕ) (tokens : List (List ℕ)) (x : Object × Object × List (List ℕ))
+    → ((tokens : List (List ℕ)) (y : Object × List (List ℕ)) → object_at room tokens ≡ Ok y → Says room tokens y.0 y.1)
+    → both_at (object_at room) tokens ≡ Ok x → SaysBoth room tokens x.0 x.1 x.2
+unfolding both_at
+both_take room tokens x take e =
+    let a = bind_ok (object_at room tokens) (λ a. object_at room a.1 >>= λ b. Ok (a.0, b.0, b.1)) x e in
+    second a.0 (take tokens a.0 a.1) a.2
+  where
+    second : (a : Object × List (List ℕ)) → Says room tokens a.0 a.1
+        → (object_at room a.1 >>= λ b. Ok (a.0, b.0, b.1)) ≡ Ok x → SaysBoth room tokens x.0 x.1 x.2
+    second a sa e =
+        let b = bind_ok (object_at room a.1) (λ b. Ok (a.0, b.0, b.1)) x e in
+        let sb = take a.1 b.0 b.1 in
+        let made : Object × Object × List (List ℕ) = (a.0, b.0.0, b.0.1) in
+        subst (λ (y : Object × Object × List (List ℕ)). SaysBoth room tokens y.0 y.1 y.2) (ok_is made x b.2) (record {
+          parts = sa.parts ∙ ap (λ ts. object_tokens a.0 ++ ts) sb.parts;
+          names = (sa.names, sb.names);
+          room_for = (sa.room_for, sb.room_for);
+        })
+
 -- the pair that this word makes
-pair_takes : (room : ℕ) (word : List ℕ) (a b o : Object) (tokens mid last rest : List (List ℕ))
-    → pair_of word a b ≡ Ok o → tokens ≡ word ∷ mid → Says room mid a last → Says room last b (codes ")" ∷ rest)
+pair_takes : (room : ℕ) (word : List ℕ) (a b o : Object) (tokens mid rest : List (List ℕ))
+    → pair_of word a b ≡ Ok o → tokens ≡ word ∷ mid → SaysBoth room mid a b (codes ")" ∷ rest)
     → Says (suc room) (codes "(" ∷ tokens) o rest
-pair_takes room word a b o tokens mid last rest e split sa sb =
-    let inside : mid ≡ object_tokens a ++ (object_tokens b ++ codes ")" ∷ rest) = sa.parts
-    ∙ ap (λ ts. object_tokens a ++ ts) sb.parts in
+pair_takes room word a b o tokens mid rest e split s =
+    let inside = s.parts in
     let flat : (object_tokens a ++ (object_tokens b ++ codes ")" ∷ [])) ++ rest ≡ object_tokens a
     ++ (object_tokens b ++ codes ")" ∷ rest) = append_assoc (object_tokens a)
     (object_tokens b ++ codes ")" ∷ []) rest ∙ ap (λ ts. object_tokens a ++ ts)
@@ -119,9 +144,8 @@ pair_takes room word a b o tokens mid last rest e split sa sb =
           subst (λ o. Says (suc room) (codes "(" ∷ tokens) o rest) (ok_is (Object.Join a b) o join.1)
           (record {
             parts = whole;
-            names = (sa.names, sb.names);
-            room_for =
-                omega (arith, sa.room_for, sb.room_for);
+            names = s.names;
+            room_for = omega (arith, s.room_for.0, s.room_for.1);
           })
       | inr other ↦
           let meet = passed (word is codes "meet") (Object.Meet a b) o other.1 in
@@ -131,11 +155,25 @@ pair_takes room word a b o tokens mid last rest e split sa sb =
           subst (λ o. Says (suc room) (codes "(" ∷ tokens) o rest) meet.1
           (record {
             parts = whole;
-            names = (sa.names, sb.names);
-            room_for =
-                omega (arith, sa.room_for, sb.room_for);
+            names = s.names;
+            room_for = omega (arith, s.room_for.0, s.room_for.1);
           })
     ]
+
+-- the first token and what is between the parentheses
+inside_takes : (room : ℕ) (tokens : List (List ℕ)) (x : Object × List (List ℕ)) (word : List ℕ × List (List ℕ))
+    (both : Object × Object × List (List ℕ)) → tokens ≡ word.0 ∷ word.1
+    → SaysBoth room word.1 both.0 both.1 both.2
+    → (after_word (codes ")") both.2 >>= λ rest. pair_of word.0 both.0 both.1 >>= λ pair. Ok (pair, rest)) ≡ Ok x
+    → Says (suc room) (codes "(" ∷ tokens) x.0 x.1
+inside_takes room tokens x word both split s e =
+    let r = bind_ok (after_word (codes ")") both.2)
+    (λ rest. pair_of word.0 both.0 both.1 >>= λ pair. Ok (pair, rest)) x e in
+    let p = bind_ok (pair_of word.0 both.0 both.1) (λ pair. Ok (pair, r.0)) x r.2 in
+    let made : Object × List (List ℕ) = (p.0, r.0) in
+    subst (λ (y : Object × List (List ℕ)). Says (suc room) (codes "(" ∷ tokens) y.0 y.1) (ok_is made x p.2)
+    (pair_takes room word.0 both.0 both.1 p.0 tokens word.1 r.0 p.1 split
+    (subst (λ ts. SaysBoth room word.1 both.0 both.1 ts) (word_takes (codes ")") both.2 r.0 r.1) s))
 
 pub object_takes : (room : ℕ) (tokens : List (List ℕ)) (x : Object × List (List ℕ)) → object_at room tokens ≡ Ok x
     → Says room tokens x.0 x.1
@@ -145,31 +183,19 @@ object_takes (suc room) [] x e = named_takes (suc room) [] x e
 object_takes (suc room) (first ∷ tokens) x e =
     elim (chosen (first is codes "(") (pair_at (object_at room) tokens) (named_at (first ∷ tokens)) (Ok x) e) [
       | inl opens ↦
-          let w = bind_ok (token_at tokens)
-          (λ word. object_at room word.1 >>= λ a. object_at room a.1 >>= λ b. after_word
-          (codes ")") b.1 >>= λ rest. pair_of word.0 a.0 b.0 >>= λ pair. Ok (pair, rest)) x opens.1 in
-          let a = bind_ok (object_at room w.0.1) (λ a. object_at room a.1 >>= λ b. after_word
-          (codes ")") b.1 >>= λ rest. pair_of w.0.0 a.0 b.0 >>= λ pair. Ok (pair, rest)) x w.2 in
-          let b = bind_ok (object_at room a.0.1) (λ b. after_word
-          (codes ")") b.1 >>= λ rest. pair_of w.0.0 a.0.0 b.0 >>= λ pair. Ok (pair, rest)) x a.2 in
-          let r = bind_ok (after_word (codes ")") b.0.1)
-          (λ rest. pair_of w.0.0 a.0.0 b.0.0 >>= λ pair. Ok (pair, rest)) x b.2 in
-          let p = bind_ok (pair_of w.0.0 a.0.0 b.0.0) (λ pair. Ok (pair, r.0)) x r.2 in
-          let sa = object_takes room w.0.1 a.0 a.1 in
-          let sb = subst (λ ts. Says room a.0.1 b.0.0 ts) (word_takes (codes ")") b.0.1 r.0 r.1)
-          (object_takes room a.0.1 b.0 b.1) in
-          let made : Object × List (List ℕ) = (p.0, r.0) in
-          let whole = pair_takes room w.0.0 a.0.0 b.0.0 p.0 tokens w.0.1 a.0.1 r.0 p.1
-          (token_takes tokens w.0 w.1) sa sb in
+          let w = bind_ok (token_at tokens) (λ word. both_at (object_at room) word.1 >>= λ both. after_word
+          (codes ")") both.2 >>= λ rest. pair_of word.0 both.0 both.1 >>= λ pair. Ok (pair, rest)) x opens.1 in
+          let b = bind_ok (both_at (object_at room) w.0.1) (λ both. after_word
+          (codes ")") both.2 >>= λ rest. pair_of w.0.0 both.0 both.1 >>= λ pair. Ok (pair, rest)) x w.2 in
           subst (λ t. Says (suc room) (t ∷ tokens) x.0 x.1) (sym (is_same first (codes "(") opens.0))
-          (subst (λ (y : Object × List (List ℕ)). Says (suc room) (codes "(" ∷ tokens) y.0 y.1)
-          (ok_is made x p.2) whole)
+          (inside_takes room tokens x w.0 b.0 (token_takes tokens w.0 w.1)
+          (both_take room w.0.1 b.0 (object_takes room) b.1) b.2)
       | inr other ↦ named_takes (suc room) (first ∷ tokens) x other.1
     ]
 
 pub object_again : (room : ℕ) (o : Object) (rest : List (List ℕ)) → HasNames o → nesting o ≤ room
     → object_at room (object_tokens o ++ rest) ≡ Ok (o, rest)
-unfolding object_at pair_at named_at token_at
+unfolding object_at both_at pair_at named_at token_at
 object_again zero (Object.Named name) rest names fits = rw (name_again name rest names) refl
 object_again (suc room) (Object.Named name) rest names fits =
     rw (is_other name (codes "(") names opening_is_no_name, name_again name rest names) refl

@@ -10,7 +10,8 @@ use Rattle.std.proofs.lemmas.List.Concat.{flat_map-cons}
 use Rattle.std.proofs.lemmas.List.Folds.{list_all-append}
 use Rattle.construction_reader.specs.declared.types.ObjectKind.{ObjectKind}
 use Rattle.construction_reader.specs.declared.types.ObjectKind.TheVariants.{Point, Line, Plane}
-use Rattle.construction_reader.specs.Words.{◌is◌, is_name_byte, begins_with_letter, is_keyword, is_name, tokens_of}
+use Rattle.construction_reader.specs.Words.{◌is◌, is_name_byte, begins_with_letter, is_keyword, is_name}
+use Rattle.construction_reader.specs.Tokens.{tokens_of}
 use Rattle.construction_reader.specs.Said.{Object, Recipe, Claim, Sentence, Row, Account, sentences_of}
 use Rattle.construction_reader.specs.Lines.{onto_line, lines_of, without_return, without_comment, content, is_allowed, is_clean, is_long}
 use Rattle.construction_reader.specs.Grammar.{object_tokens, objects_tokens, recipe_tokens, claim_word, claim_args, kind_word, sentence_tokens, HasNames, IsObject, IsRecipe, IsSentence, IsAccount}

@@ -10,11 +10,11 @@ use Rattle.construction_reader.specs.Words.{is_name}
 use Rattle.construction_reader.specs.Said.{Object, Recipe, Claim, Sentence}
 use Rattle.construction_reader.specs.Objects.{token_at, object_at}
 use Rattle.construction_reader.specs.Lines.{may_claim, has_keyword, is_deep}
-use Rattle.construction_reader.specs.Sentences.{ended, objects_at, on_at, pascal_at, recipe_at, definition_at, free_at, claim_of, claim_at, begun_by, shaped, sentence_at}
+use Rattle.construction_reader.specs.Sentences.{ended, objects_at, weights_at, on_at, pascal_at, recipe_at, definition_at, free_at, claim_of, claim_at, begun_by, shaped, sentence_at}
 use Rattle.construction_reader.specs.Grammar.{object_tokens, objects_tokens, recipe_tokens, kind_word, claim_word, claim_args, claim_tokens, IsClaim, sentence_tokens, IsSentence, nesting, IsObject, AreObjects, IsRecipe}
 use Rattle.construction_reader.proofs.ObjectLaws.{is_other, opening_is_no_name, name_again, word_again, object_again}
 use Rattle.construction_reader.proofs.SpacedLaws.{and_true}
-use Rattle.construction_reader.proofs.SentenceLaws.{closing_is_no_name, deep-object, first_token, step, objects_again, two_again}
+use Rattle.construction_reader.proofs.SentenceLaws.{both_again, closing_is_no_name, deep-object, first_token, step, objects_again, two_again}
 
 -- ---- no sentence is too deep
 
@@ -110,11 +110,10 @@ object_last o fits = ap (object_at 32) (sym (append-nil (object_tokens o)))
 
 on_again : (a b : Object) (s t : List ℕ) → IsObject a → IsObject b → is_name s ≡ true → is_name t ≡ true
     → on_at (object_tokens a ++ (object_tokens b ++ codes "with" ∷ s ∷ t ∷ [])) ≡ Ok (Recipe.On a b s t)
-unfolding on_at ended
+unfolding on_at weights_at ended
 on_again a b s t fa fb ns nt =
     rw (
-      object_again 32 a (object_tokens b ++ codes "with" ∷ s ∷ t ∷ []) fa.names fa.shallow,
-      object_again 32 b (codes "with" ∷ s ∷ t ∷ []) fb.names fb.shallow,
+      both_again a b (codes "with" ∷ s ∷ t ∷ []) fa fb,
       word_again (codes "with") (s ∷ t ∷ []),
       name_again s (t ∷ []) ns,
       name_again t [] nt,

@@ -11,11 +11,11 @@ use Rattle.construction_reader.specs.declared.types.ObjectKind.{ObjectKind}
 use Rattle.construction_reader.specs.Outcome.{◌>>=◌}
 use Rattle.construction_reader.specs.Words.{◌is◌, is_name}
 use Rattle.construction_reader.specs.Said.{Object, Recipe, Claim, Sentence}
-use Rattle.construction_reader.specs.Objects.{token_at, name_at, after_word, object_at}
+use Rattle.construction_reader.specs.Objects.{token_at, name_at, after_word, both_at, object_at}
 use Rattle.construction_reader.specs.Lines.{has_keyword, is_deep}
-use Rattle.construction_reader.specs.Sentences.{ended, objects_at, two_at, on_at, pascal_at, recipe_at, definition_at, free_at, claim_of, claim_at, begun_by, shaped, sentence_at}
+use Rattle.construction_reader.specs.Sentences.{ended, objects_at, two_at, weights_at, on_at, pascal_at, recipe_at, definition_at, free_at, claim_of, claim_at, begun_by, shaped, sentence_at}
 use Rattle.construction_reader.specs.Grammar.{object_tokens, objects_tokens, recipe_tokens, kind_word, claim_tokens, IsClaim, sentence_tokens, IsSentence, nesting, HasNames, IsObject, IsRecipe}
-use Rattle.construction_reader.proofs.ObjectLaws.{bind_ok, ok_is, passed, chosen, is_same, is_other, opening_is_no_name, token_takes, name_takes, word_takes, Says, object_takes, object_again}
+use Rattle.construction_reader.proofs.ObjectLaws.{bind_ok, ok_is, passed, chosen, is_same, is_other, opening_is_no_name, token_takes, name_takes, word_takes, Says, SaysBoth, both_take, object_takes, object_again}
 
 -- ---- depth
 
@@ -129,65 +129,93 @@ pub two_take : (tokens : List (List ℕ)) (x : Object × Object) → two_at toke
     → (tokens ≡ object_tokens x.0 ++ object_tokens x.1) × IsObject x.0 × IsObject x.1
 unfolding two_at
 two_take tokens x e =
-    let a = bind_ok (object_at 32 tokens) (λ a. object_at 32 a.1 >>= λ b. ended b.1 >>= λ end. Ok (a.0, b.0)) x e in
-    let b = bind_ok (object_at 32 a.0.1) (λ b. ended b.1 >>= λ end. Ok (a.0.0, b.0)) x a.2 in
-    let u = bind_ok (ended b.0.1) (λ end. Ok (a.0.0, b.0.0)) x b.2 in
-    let sa = object_takes 32 tokens a.0 a.1 in
-    let sb = object_takes 32 a.0.1 b.0 b.1 in
-    let last : a.0.1 ≡ object_tokens b.0.0 = sb.parts ∙ ap (λ ts. object_tokens b.0.0 ++ ts) (end_takes b.0.1 u.0 u.1)
-    ∙ append-nil (object_tokens b.0.0) in
-    let made : Object × Object = (a.0.0, b.0.0) in
-    subst (λ (y : Object × Object). (tokens ≡ object_tokens y.0 ++ object_tokens y.1) × IsObject y.0 × IsObject y.1)
-    (ok_is made x u.2) (
-      sa.parts ∙ ap (λ ts. object_tokens a.0.0 ++ ts) last,
-      record { names = sa.names; shallow = sa.room_for },
-      record { names = sb.names; shallow = sb.room_for },
-    )
+    let both = bind_ok (both_at (object_at 32) tokens) (λ both. ended both.2 >>= λ end. Ok (both.0, both.1)) x e in
+    last both.0 (both_take 32 tokens both.0 (object_takes 32) both.1) both.2
+  where
+    last : (both : Object × Object × List (List ℕ)) → SaysBoth 32 tokens both.0 both.1 both.2
+        → (ended both.2 >>= λ end. Ok (both.0, both.1)) ≡ Ok x
+        → (tokens ≡ object_tokens x.0 ++ object_tokens x.1) × IsObject x.0 × IsObject x.1
+    last both s e =
+        let u = bind_ok (ended both.2) (λ end. Ok (both.0, both.1)) x e in
+        let end : object_tokens both.1 ++ both.2 ≡ object_tokens both.1 =
+        ap (λ ts. object_tokens both.1 ++ ts) (end_takes both.2 u.0 u.1) ∙ append-nil (object_tokens both.1) in
+        let made : Object × Object = (both.0, both.1) in
+        subst (λ (y : Object × Object). (tokens ≡ object_tokens y.0 ++ object_tokens y.1) × IsObject y.0 × IsObject y.1)
+        (ok_is made x u.2) (
+          s.parts ∙ ap (λ ts. object_tokens both.0 ++ ts) end,
+          record { names = s.names.0; shallow = s.room_for.0 },
+          record { names = s.names.1; shallow = s.room_for.1 },
+        )
+
+-- two objects, and then anything
+pub both_again : (a b : Object) (rest : List (List ℕ)) → IsObject a → IsObject b
+    → both_at (object_at 32) (object_tokens a ++ (object_tokens b ++ rest)) ≡ Ok (a, b, rest)
+unfolding both_at
+both_again a b rest fa fb =
+    rw (
+      object_again 32 a (object_tokens b ++ rest) fa.names fa.shallow,
+      object_again 32 b rest fb.names fb.shallow,
+    ) refl
 
 pub two_again : (a b : Object) → IsObject a → IsObject b → two_at (object_tokens a ++ object_tokens b) ≡ Ok (a, b)
 unfolding two_at ended
 two_again a b fa fb =
-    let last : object_at 32 (object_tokens b) ≡ Ok (b, []) = ap (object_at 32) (sym (append-nil (object_tokens b)))
-    ∙ object_again 32 b [] fb.names fb.shallow in
-    rw (object_again 32 a (object_tokens b) fa.names fa.shallow, last) refl
+    let read : both_at (object_at 32) (object_tokens a ++ object_tokens b) ≡ Ok (a, b, []) =
+    ap (λ ts. both_at (object_at 32) (object_tokens a ++ ts)) (sym (append-nil (object_tokens b)))
+    ∙ both_again a b [] fa fb in
+    rw read refl
+
+weights_take : (tokens : List (List ℕ)) (x : List ℕ × List ℕ) → weights_at tokens ≡ Ok x
+    → (tokens ≡ codes "with" ∷ x.0 ∷ x.1 ∷ []) × (is_name x.0 ≡ true) × (is_name x.1 ≡ true)
+unfolding weights_at
+weights_take tokens x e =
+    let w = bind_ok (after_word (codes "with") tokens)
+    (λ ns. name_at ns >>= λ s. name_at s.1 >>= λ t. ended t.1 >>= λ end. Ok (s.0, t.0)) x e in
+    let s = bind_ok (name_at w.0) (λ s. name_at s.1 >>= λ t. ended t.1 >>= λ end. Ok (s.0, t.0)) x w.2 in
+    let t = bind_ok (name_at s.0.1) (λ t. ended t.1 >>= λ end. Ok (s.0.0, t.0)) x s.2 in
+    let u = bind_ok (ended t.0.1) (λ end. Ok (s.0.0, t.0.0)) x t.2 in
+    let ns = name_takes w.0 s.0 s.1 in
+    let nt = name_takes s.0.1 t.0 t.1 in
+    let made : List ℕ × List ℕ = (s.0.0, t.0.0) in
+    subst (λ (y : List ℕ × List ℕ). (tokens ≡ codes "with" ∷ y.0 ∷ y.1 ∷ [])
+    × (is_name y.0 ≡ true) × (is_name y.1 ≡ true)) (ok_is made x u.2) (
+      word_takes (codes "with") tokens w.0 w.1
+          ∙ ap (λ ts. codes "with" ∷ ts) (ns.0 ∙ ap (λ ts. s.0.0 ∷ ts)
+          (nt.0 ∙ ap (λ ts. t.0.0 ∷ ts) (end_takes t.0.1 u.0 u.1))),
+      ns.1,
+      nt.1,
+    )
 
 on_take : (tokens : List (List ℕ)) (x : Recipe) → on_at tokens ≡ Ok x → (codes "on" ∷ tokens ≡ recipe_tokens x)
     × IsRecipe x
 unfolding on_at
 on_take tokens x e =
-    let a = bind_ok (object_at 32 tokens) (λ a. object_at 32 a.1 >>= λ b. after_word
-    (codes "with") b.1 >>= λ ns. name_at ns >>= λ s. name_at s.1 >>= λ t. ended t.1 >>= λ end. Ok
-    (Recipe.On a.0 b.0 s.0 t.0)) x e in
-    let b = bind_ok (object_at 32 a.0.1) (λ b. after_word
-    (codes "with") b.1 >>= λ ns. name_at ns >>= λ s. name_at s.1 >>= λ t. ended t.1 >>= λ end. Ok
-    (Recipe.On a.0.0 b.0 s.0 t.0)) x a.2 in
-    let w = bind_ok (after_word (codes "with") b.0.1)
-    (λ ns. name_at ns >>= λ s. name_at s.1 >>= λ t. ended t.1 >>= λ end. Ok
-    (Recipe.On a.0.0 b.0.0 s.0 t.0)) x b.2 in
-    let s = bind_ok (name_at w.0) (λ s. name_at s.1 >>= λ t. ended t.1 >>= λ end. Ok
-    (Recipe.On a.0.0 b.0.0 s.0 t.0)) x w.2 in
-    let t = bind_ok (name_at s.0.1) (λ t. ended t.1 >>= λ end. Ok (Recipe.On a.0.0 b.0.0 s.0.0 t.0)) x s.2 in
-    let u = bind_ok (ended t.0.1) (λ end. Ok (Recipe.On a.0.0 b.0.0 s.0.0 t.0.0)) x t.2 in
-    let sa = object_takes 32 tokens a.0 a.1 in
-    let sb = object_takes 32 a.0.1 b.0 b.1 in
-    let ns = name_takes w.0 s.0 s.1 in
-    let nt = name_takes s.0.1 t.0 t.1 in
-    let names : b.0.1 ≡ codes "with" ∷ s.0.0 ∷ t.0.0 ∷ [] = word_takes (codes "with") b.0.1 w.0 w.1
-    ∙ ap (λ ts. codes "with" ∷ ts) (ns.0 ∙ ap (λ ts. s.0.0 ∷ ts)
-    (nt.0 ∙ ap (λ ts. t.0.0 ∷ ts) (end_takes t.0.1 u.0 u.1))) in
-    let whole : codes "on" ∷ tokens ≡ recipe_tokens (Recipe.On a.0.0 b.0.0 s.0.0 t.0.0) =
-    ap (λ ts. codes "on" ∷ ts) (sa.parts ∙ ap (λ ts. object_tokens a.0.0 ++ ts)
-    (sb.parts ∙ ap (λ ts. object_tokens b.0.0 ++ ts) names)) in
-    subst (λ (y : Recipe). (codes "on" ∷ tokens ≡ recipe_tokens y) × IsRecipe y)
-    (ok_is (Recipe.On a.0.0 b.0.0 s.0.0 t.0.0) x u.2) (
-      whole,
-      (
-        record { names = sa.names; shallow = sa.room_for },
-        record { names = sb.names; shallow = sb.room_for },
-        ns.1,
-        nt.1,
-      ),
-    )
+    let both = bind_ok (both_at (object_at 32) tokens)
+    (λ both. weights_at both.2 >>= λ weights. Ok (Recipe.On both.0 both.1 weights.0 weights.1)) x e in
+    let weights = bind_ok (weights_at both.0.2)
+    (λ weights. Ok (Recipe.On both.0.0 both.0.1 weights.0 weights.1)) x both.2 in
+    made both.0 weights.0 (both_take 32 tokens both.0 (object_takes 32) both.1)
+    (weights_take both.0.2 weights.0 weights.1) weights.2
+  where
+    made : (both : Object × Object × List (List ℕ)) (weights : List ℕ × List ℕ)
+        → SaysBoth 32 tokens both.0 both.1 both.2
+        → (both.2 ≡ codes "with" ∷ weights.0 ∷ weights.1 ∷ []) × (is_name weights.0 ≡ true) × (is_name weights.1 ≡ true)
+        → (let r : Result Recipe Kind = Ok (Recipe.On both.0 both.1 weights.0 weights.1) in r) ≡ Ok x
+        → (codes "on" ∷ tokens ≡ recipe_tokens x) × IsRecipe x
+    made both weights says names e =
+        let on = Recipe.On both.0 both.1 weights.0 weights.1 in
+        let whole : codes "on" ∷ tokens ≡ recipe_tokens on =
+        ap (λ ts. codes "on" ∷ ts) (says.parts
+        ∙ ap (λ ts. object_tokens both.0 ++ (object_tokens both.1 ++ ts)) names.0) in
+        subst (λ (y : Recipe). (codes "on" ∷ tokens ≡ recipe_tokens y) × IsRecipe y) (ok_is on x e) (
+          whole,
+          (
+            record { names = says.names.0; shallow = says.room_for.0 },
+            record { names = says.names.1; shallow = says.room_for.1 },
+            names.1,
+            names.2,
+          ),
+        )
 
 pascal_take : (tokens : List (List ℕ)) (x : Recipe) → pascal_at tokens ≡ Ok x
     → (codes "pascal" ∷ tokens ≡ recipe_tokens x) × IsRecipe x

@@ -8,8 +8,8 @@ use Rattle.construction_reader.specs.declared.types.ObjectKind.TheVariants.{Poin
 use Rattle.construction_reader.specs.Outcome.{◌>>=◌}
 use Rattle.construction_reader.specs.Words.{◌is◌, is_name}
 use Rattle.construction_reader.specs.Said.{Object, Recipe, Claim, Sentence}
-use Rattle.construction_reader.specs.Objects.{token_at, name_at, after_word, named_at, pair_of, pair_at, object_at}
-use Rattle.construction_reader.specs.Sentences.{ended, objects_at, two_at, on_at, pascal_at, recipe_at, definition_at, free_at, counted, claim_of, claim_at, begun_by, shaped}
+use Rattle.construction_reader.specs.Objects.{token_at, name_at, after_word, named_at, both_at, pair_of, pair_at, object_at}
+use Rattle.construction_reader.specs.Sentences.{ended, objects_at, two_at, weights_at, on_at, pascal_at, recipe_at, definition_at, free_at, counted, claim_of, claim_at, begun_by, shaped}
 
 -- it fails by its shape alone
 pub record ByShape {A : Type 0} (r : Result A Kind) : Type 0 where
@@ -61,15 +61,23 @@ pair_of-by : (word : List ℕ) (a b : Object) → ByShape (pair_of word a b)
 pair_of-by word a b = cond_by (word is codes "join") _ _ (ok_by (Object.Join a b))
     (cond_by (word is codes "meet") _ _ (ok_by (Object.Meet a b)) err_by)
 
+both_by : (object_of : List (List ℕ) → Result (Object × List (List ℕ)) Kind)
+    → ((tokens : List (List ℕ)) → ByShape (object_of tokens)) → (tokens : List (List ℕ))
+    → ByShape (both_at object_of tokens)
+unfolding both_at
+both_by object_of each tokens = bind_by (object_of tokens) _ (each tokens)
+    (λ a. bind_by (object_of a.1) _ (each a.1) (λ b. ok_by (a.0, b.0, b.1)))
+
 pair_by : (object_of : List (List ℕ) → Result (Object × List (List ℕ)) Kind)
     → ((tokens : List (List ℕ)) → ByShape (object_of tokens)) → (tokens : List (List ℕ))
     → ByShape (pair_at object_of tokens)
 unfolding pair_at
 pair_by object_of each tokens =
-    bind_by (token_at tokens) _ (token_by tokens) (λ word. bind_by (object_of word.1) _ (each word.1)
-    (λ a. bind_by (object_of a.1) _ (each a.1) (λ b. bind_by (after_word (codes ")") b.1) _
-    (word_by (codes ")") b.1) (λ rest. bind_by (pair_of word.0 a.0 b.0) _ (pair_of-by word.0 a.0 b.0)
-    (λ pair. ok_by (pair, rest))))))
+    bind_by (token_at tokens) _ (token_by tokens)
+    (λ word. bind_by (both_at object_of word.1) _ (both_by object_of each word.1)
+    (λ both. bind_by (after_word (codes ")") both.2) _ (word_by (codes ")") both.2)
+    (λ rest. bind_by (pair_of word.0 both.0 both.1) _ (pair_of-by word.0 both.0 both.1)
+    (λ pair. ok_by (pair, rest)))))
 
 object_by : (room : ℕ) (tokens : List (List ℕ)) → ByShape (object_at room tokens)
 unfolding object_at
@@ -88,19 +96,21 @@ objects_by (suc most) (t ∷ ts) = bind_by (object_at 32 (t ∷ ts)) _ (object_b
 
 two_by : (tokens : List (List ℕ)) → ByShape (two_at tokens)
 unfolding two_at
-two_by tokens = bind_by (object_at 32 tokens) _ (object_by 32 tokens)
-    (λ a. bind_by (object_at 32 a.1) _ (object_by 32 a.1)
-    (λ b. bind_by (ended b.1) _ (end_by b.1) (λ end. ok_by (a.0, b.0))))
+two_by tokens = bind_by (both_at (object_at 32) tokens) _ (both_by (object_at 32) (object_by 32) tokens)
+    (λ both. bind_by (ended both.2) _ (end_by both.2) (λ end. ok_by (both.0, both.1)))
+
+weights_by : (tokens : List (List ℕ)) → ByShape (weights_at tokens)
+unfolding weights_at
+weights_by tokens = bind_by (after_word (codes "with") tokens) _ (word_by (codes "with") tokens)
+    (λ names. bind_by (name_at names) _ (name_by names)
+    (λ s. bind_by (name_at s.1) _ (name_by s.1)
+    (λ t. bind_by (ended t.1) _ (end_by t.1) (λ end. ok_by (s.0, t.0)))))
 
 on_by : (tokens : List (List ℕ)) → ByShape (on_at tokens)
 unfolding on_at
-on_by tokens =
-    bind_by (object_at 32 tokens) _ (object_by 32 tokens)
-    (λ a. bind_by (object_at 32 a.1) _ (object_by 32 a.1)
-    (λ b. bind_by (after_word (codes "with") b.1) _ (word_by (codes "with") b.1)
-    (λ names. bind_by (name_at names) _ (name_by names)
-    (λ s. bind_by (name_at s.1) _ (name_by s.1) (λ t. bind_by (ended t.1) _ (end_by t.1)
-    (λ end. ok_by (Recipe.On a.0 b.0 s.0 t.0)))))))
+on_by tokens = bind_by (both_at (object_at 32) tokens) _ (both_by (object_at 32) (object_by 32) tokens)
+    (λ both. bind_by (weights_at both.2) _ (weights_by both.2)
+    (λ weights. ok_by (Recipe.On both.0 both.1 weights.0 weights.1)))
 
 pascal_by : (tokens : List (List ℕ)) → ByShape (pascal_at tokens)
 unfolding pascal_at

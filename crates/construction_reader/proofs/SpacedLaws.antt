@@ -2,7 +2,8 @@
 use Rattle.std.proofs.Common.{◌≡◌, ℕ, ◌<◌, Bool, true, false, ◌&&◌, List, [], ◌∷◌, ◌++◌, length, refl, sym, ap, ◌∙◌, arith, codes, inl, inr, ◌⊎◌}
 use Rattle.std.specs.List.{list_all, AllByRecursion}
 use Rattle.std.proofs.lemmas.Bool.{cases_Bool}
-use Rattle.construction_reader.specs.Words.{◌is◌, is_name_byte, begins_with_name_byte, onto_first, tokens_of}
+use Rattle.construction_reader.specs.Words.{◌is◌, is_name_byte}
+use Rattle.construction_reader.specs.Tokens.{begins_with_name_byte, onto_first, tokens_of, tokens_by}
 use Rattle.construction_reader.specs.Printed.{gap, spaced}
 use Rattle.construction_reader.proofs.ObjectLaws.{is_same}
 
@@ -17,7 +18,7 @@ and_true false b e = absurd cc
 
 run_alone : (b : ℕ) (run rest : List ℕ) → list_all is_name_byte (b ∷ run) ≡ true → begins_with_name_byte rest ≡ false
     → tokens_of ((b ∷ run) ++ rest) ≡ (b ∷ run) ∷ tokens_of rest
-unfolding tokens_of
+unfolding tokens_by
 run_alone b [] rest all stop = let first = and_true (is_name_byte b) _ all in rw (first.0, stop) refl
 run_alone b (c ∷ run) rest all stop =
     let first = and_true (is_name_byte b) (list_all is_name_byte (c ∷ run)) all in
@@ -37,7 +38,7 @@ spaced_stops (t ∷ ts) =
     ]
 
 gap_goes : (glued : Bool) (token rest : List ℕ) → tokens_of (gap glued token ++ rest) ≡ tokens_of rest
-unfolding tokens_of
+unfolding tokens_by
 gap_goes true token rest = refl
 gap_goes false token rest =
     elim (cases_Bool (token is codes ")")) [
@@ -55,7 +56,7 @@ is_not_opening b run e =
 
 one_token : (token : List ℕ) (tokens : List (List ℕ)) → IsToken token
     → tokens_of (token ++ spaced (token is codes "(") tokens) ≡ token ∷ tokens_of (spaced (token is codes "(") tokens)
-unfolding tokens_of
+unfolding tokens_by
 one_token [] tokens (inl run) = absurd (omega (arith, run.0))
 one_token (b ∷ bytes) tokens (inl run) =
     let first = and_true (is_name_byte b) (list_all is_name_byte bytes) run.1 in
@@ -69,7 +70,7 @@ one_token token tokens (inr (inr (inr e))) = rw e refl
 
 pub tokens_of-spaced : (glued : Bool) (tokens : List (List ℕ)) → AllByRecursion IsToken tokens
     → tokens_of (spaced glued tokens) ≡ tokens
-unfolding spaced tokens_of
+unfolding spaced tokens_by
 tokens_of-spaced glued [] each = refl
 tokens_of-spaced glued (t ∷ ts) each = gap_goes glued t (t ++ spaced (t is codes "(") ts) ∙ one_token t ts each.0
     ∙ ap (λ rest. t ∷ rest) (tokens_of-spaced (t is codes "(") ts each.1)

@@ -13,7 +13,8 @@ use Rattle.construction_reader.specs.declared.state.Stage.TheVariants.{Empty, Na
 use Rattle.construction_reader.specs.declared.fault.ReadTextError.{ReadTextError}
 use Rattle.construction_reader.specs.declared.construction.Construction.{Construction}
 use Rattle.construction_reader.specs.Seen.{account}
-use Rattle.construction_reader.specs.Words.{◌is◌, tokens_of}
+use Rattle.construction_reader.specs.Words.{◌is◌}
+use Rattle.construction_reader.specs.Tokens.{tokens_of}
 use Rattle.construction_reader.specs.Said.{Recipe, Sentence, Row, Account, sentences_of}
 use Rattle.construction_reader.specs.Sentences.{sentence_at}
 use Rattle.construction_reader.specs.Lines.{lines_of, content, line_tokens}

@@ -9,7 +9,7 @@ use Rattle.construction_reader.specs.declared.fault.Kind.TheVariants.{Byte, Long
 use Rattle.construction_reader.specs.declared.state.Stage.{Stage}
 use Rattle.construction_reader.specs.declared.state.Stage.TheVariants.{Going, Concluded}
 use Rattle.construction_reader.specs.Outcome.{◌>>=◌}
-use Rattle.construction_reader.specs.Words.{tokens_of}
+use Rattle.construction_reader.specs.Tokens.{tokens_of}
 use Rattle.construction_reader.specs.Said.{Sentence, Row, Account, sentences_of}
 use Rattle.construction_reader.specs.Sentences.{sentence_at}
 use Rattle.construction_reader.specs.Lines.{content, is_clean, is_long, line_tokens}

@@ -4,7 +4,8 @@ use Rattle.std.specs.List.{position_or_len}
 use Rattle.std.proofs.Math.Numerals.{one-add}
 use Rattle.std.proofs.lemmas.Bool.{cases_Bool}
 use Rattle.std.proofs.lemmas.List.{append-nil}
-use Rattle.construction_reader.specs.Words.{is_name_byte, is_sign, begins_token, front_length, onto_first, tokens_of}
+use Rattle.construction_reader.specs.Words.{is_name_byte, is_sign}
+use Rattle.construction_reader.specs.Tokens.{begins_token, front_length, onto_first, tokens_of, tokens_by}
 use Rattle.construction_reader.proofs.Places.{position_in}
 
 abbrev run : List ℕ → ℕ
@@ -13,7 +14,7 @@ run bytes = position_or_len (λ b. not (is_name_byte b)) bytes
 -- behind a name byte the run goes on as far as name bytes stand
 tokens_of-run : (b : ℕ) (bytes : List ℕ) → is_name_byte b ≡ true
     → tokens_of (b ∷ bytes) ≡ (b ∷ take (run bytes) bytes) ∷ tokens_of (drop (run bytes) bytes)
-unfolding tokens_of
+unfolding tokens_by
 tokens_of-run b [] e = rw e refl
 tokens_of-run b (c ∷ bytes) e =
     elim (cases_Bool (is_name_byte c)) [
@@ -30,7 +31,7 @@ tokens_of-run b (c ∷ bytes) e =
 
 pub tokens_of-token : (bytes : List ℕ) → 0 < length bytes → begins_token (get_or bytes 0 0) ≡ true
     → tokens_of bytes ≡ take (front_length bytes) bytes ∷ tokens_of (drop (front_length bytes) bytes)
-unfolding tokens_of
+unfolding tokens_by
 tokens_of-token [] h e = absurd (omega arith)
 tokens_of-token (b ∷ bytes) h e =
     elim (cases_Bool (is_name_byte b)) [
@@ -42,7 +43,7 @@ tokens_of-token (b ∷ bytes) h e =
 
 pub tokens_of-space : (bytes : List ℕ) → 0 < length bytes → begins_token (get_or bytes 0 0) ≡ false
     → tokens_of bytes ≡ tokens_of (drop (front_length bytes) bytes)
-unfolding tokens_of
+unfolding tokens_by
 tokens_of-space [] h e = absurd (omega arith)
 tokens_of-space (b ∷ bytes) h e =
     elim (cases_Bool (is_name_byte b)) [
@@ -73,6 +74,6 @@ skips front bytes total h e so_far = ap (λ ts. front ++ ts) (sym (tokens_of-spa
 
 pub no_more : (front : List (List ℕ)) (bytes : List ℕ) (total : List (List ℕ)) → length bytes ≡ 0 → front
     ++ tokens_of bytes ≡ total → front ≡ total
-unfolding tokens_of
+unfolding tokens_by
 no_more front [] total h so_far = sym (append-nil front) ∙ so_far
 no_more front (b ∷ bytes) total h so_far = absurd (omega arith)

@@ -8,7 +8,8 @@ use Rattle.construction_reader.specs.declared.state.Stage.TheVariants.{Empty, Na
 use Rattle.construction_reader.specs.declared.fault.ReadTextError.{ReadTextError}
 use Rattle.construction_reader.specs.declared.construction.Construction.{Construction}
 use Rattle.construction_reader.specs.Seen.{account}
-use Rattle.construction_reader.specs.Words.{◌is◌, tokens_of}
+use Rattle.construction_reader.specs.Words.{◌is◌}
+use Rattle.construction_reader.specs.Tokens.{tokens_of}
 use Rattle.construction_reader.specs.Said.{Account, sentences_of}
 use Rattle.construction_reader.specs.Lines.{lines_of, content}
 use Rattle.construction_reader.specs.Texts.{Progress, start, is_two, full_line, line_read, at_line, ends, reads, read_of, GivesText}
@@ -16,6 +17,7 @@ use Rattle.construction_reader.specs.Grammar.{params_of, IsAccount}
 use Rattle.construction_reader.specs.TextOf.{onto_full, full_lines, IsClean, TextOf}
 use Rattle.construction_reader.proofs.ObjectLaws.{ok_is, is_same}
 use Rattle.construction_reader.proofs.SpacedLaws.{and_true}
+use Rattle.construction_reader.proofs.ConclusionLaws.{one_conclusion}
 use Rattle.construction_reader.proofs.TextLaws.{said, line_cases, step, IsWithin, SaysRows, blank_read, same_account, going_takes, tokens_cases}
 
 -- ---- the two first lines
@@ -91,6 +93,7 @@ after_rank n line lines p c d fresh clean tokens is_rank rest =
         few_definitions =
             omega (arith, rest.few_definitions, fresh.definitions);
         few_params = few;
+        few_conclusions = (let one = one_conclusion (sentences_of rest.rows) rest.ends in omega arith);
       };
     })
 

@@ -1,10 +1,11 @@
 -- The grammar: which tokens say what, and what may be said.
-use Rattle.std.specs.Prelude.{◌≡◌, ℕ, ◌+◌, ◌≤◌, ◌<◌, max, Bool, true, false, List, [], ◌∷◌, ◌++◌, length, sum_by, codes}
+use Rattle.std.specs.Prelude.{◌≡◌, ℕ, ◌+◌, ◌≤◌, ◌<◌, max, Bool, true, false, not, ◌&&◌, List, [], ◌∷◌, ◌++◌, length, sum_by, codes}
 use Rattle.std.specs.List.{flat_map, AllByRecursion, list_all}
 use Rattle.construction_reader.specs.declared.types.ObjectKind.{ObjectKind}
 use Rattle.construction_reader.specs.declared.types.ObjectKind.TheVariants.{Point, Line, Plane}
 use Rattle.construction_reader.specs.Words.{is_name}
-use Rattle.construction_reader.specs.Said.{Object, Recipe, Claim, Sentence, Row, sentences_of}
+use Rattle.construction_reader.specs.Rules.{Rules, version_1, IsRankBy, allows_several}
+use Rattle.construction_reader.specs.Said.{Object, Recipe, Claim, Sentence, Row, Account, sentences_of}
 use Rattle.construction_reader.specs.Params.{with_params}
 
 -- ---- the tokens that say it
@@ -87,13 +88,6 @@ pub record IsObject (o : Object) : Type 0 where
 abbrev pub AreObjects : ℕ → List Object → Type 0
 AreObjects count args = (length args ≡ count) × AllByRecursion IsObject args
 
--- a recipe of the grammar
-abbrev pub IsRecipe : Recipe → Type 0
-IsRecipe (Recipe.Join a b) = IsObject a × IsObject b
-IsRecipe (Recipe.Meet a b) = IsObject a × IsObject b
-IsRecipe (Recipe.On a b s t) = IsObject a × IsObject b × (is_name s ≡ true) × (is_name t ≡ true)
-IsRecipe (Recipe.Pascal five through) = AreObjects 5 five × IsObject through
-
 -- a claim of the grammar, about as many objects as its word wants
 abbrev pub IsClaim : Claim → Type 0
 IsClaim (Claim.Collinear args) = AreObjects 3 args
@@ -103,12 +97,6 @@ IsClaim (Claim.Meeting args) = AreObjects 2 args
 IsClaim (Claim.Incident args) = AreObjects 2 args
 IsClaim (Claim.Conic args) = AreObjects 6 args
 
--- a sentence of the grammar
-abbrev pub IsSentence : Sentence → Type 0
-IsSentence (Sentence.Free names) = (0 < length names) × (list_all is_name names ≡ true)
-IsSentence (Sentence.Define kind name recipe) = (is_name name ≡ true) × IsRecipe recipe
-IsSentence (Sentence.Conclude claim) = IsClaim claim
-
 -- ---- whole constructions
 
 -- whether it is a conclusion
@@ -116,12 +104,6 @@ abbrev pub is_conclusion : Sentence → Bool
 is_conclusion (Sentence.Free names) = false
 is_conclusion (Sentence.Define kind name recipe) = false
 is_conclusion (Sentence.Conclude claim) = true
-
--- the last of the sentences is a conclusion, and no other is
-abbrev pub EndsOnce : List Sentence → Type 0
-EndsOnce [] = ⊥
-EndsOnce (sentence ∷ []) = is_conclusion sentence ≡ true
-EndsOnce (sentence ∷ next ∷ others) = (is_conclusion sentence ≡ false) × EndsOnce (next ∷ others)
 
 -- how many free names it has
 abbrev pub free_names : Sentence → ℕ
@@ -135,6 +117,12 @@ definitions (Sentence.Free names) = 0
 definitions (Sentence.Define kind name recipe) = 1
 definitions (Sentence.Conclude claim) = 0
 
+-- how many conclusions it is
+abbrev pub conclusions : Sentence → ℕ
+conclusions (Sentence.Free names) = 0
+conclusions (Sentence.Define kind name recipe) = 0
+conclusions (Sentence.Conclude claim) = 1
+
 -- these parameters, and behind them the new ones of the sentence
 abbrev pub params_with : List (List ℕ) → Sentence → List (List ℕ)
 params_with params (Sentence.Free names) = params
@@ -146,21 +134,71 @@ abbrev pub params_of : List (List ℕ) → List Sentence → List (List ℕ)
 params_of params [] = params
 params_of params (sentence ∷ others) = params_of (params_with params sentence) others
 
--- a rank and sentences that a text may give, within the limits
-pub record IsAccount (rank : ℕ) (sentences : List Sentence) : Type 0 where
-  pub ranked : (3 ≤ rank) × (rank ≤ 4)
-  pub each : AllByRecursion IsSentence sentences
-  pub ends : EndsOnce sentences
-  pub few_free : sum_by free_names sentences ≤ 200
-  pub few_definitions : sum_by definitions sentences ≤ 2000
-  pub few_params : length (params_of [] sentences) ≤ 64
-
 -- the lines of the rows rise, the first of them at this line or below it
 abbrev pub RisesFrom : ℕ → List Row → Type 0
 RisesFrom line [] = Unit {0}
 RisesFrom line (row ∷ rows) = (line ≤ row.line) × RisesFrom (row.line + 1) rows
 
--- a rank and rows that a text may give: behind the header, the sentences stand on lines of their own
-pub record IsGiven (rank : ℕ) (rows : List Row) : Type 0 where
-  pub good : IsAccount rank (sentences_of rows)
-  pub rising : RisesFrom 3 rows
+-- ---- what the rules of a version decide
+
+module _ (rules : Rules) where
+  -- a recipe of the grammar
+  abbrev pub IsRecipeBy : Recipe → Type 0
+  IsRecipeBy (Recipe.Join a b) = IsObject a × IsObject b
+  IsRecipeBy (Recipe.Meet a b) = IsObject a × IsObject b
+  IsRecipeBy (Recipe.On a b s t) =
+      IsObject a × IsObject b × (rules.is_weight s ≡ true) × (rules.is_weight t ≡ true)
+  IsRecipeBy (Recipe.Pascal five through) = AreObjects 5 five × IsObject through
+
+  -- a sentence of the grammar
+  abbrev pub IsSentenceBy : Sentence → Type 0
+  IsSentenceBy (Sentence.Free names) = (0 < length names) × (list_all is_name names ≡ true)
+  IsSentenceBy (Sentence.Define kind name recipe) = (is_name name ≡ true) × IsRecipeBy recipe
+  IsSentenceBy (Sentence.Conclude claim) = IsClaim claim
+
+  -- whether the sentence is a conclusion, and the next one no further conclusion
+  abbrev pub ends_too_soon : Sentence → Sentence → Bool
+  ends_too_soon sentence next = not (allows_several rules && is_conclusion next) && is_conclusion sentence
+
+  -- the last of the sentences is a conclusion; no other is, or where several may be, only those directly before it
+  abbrev pub EndsBy : List Sentence → Type 0
+  EndsBy [] = ⊥
+  EndsBy (sentence ∷ []) = is_conclusion sentence ≡ true
+  EndsBy (sentence ∷ next ∷ others) = (ends_too_soon sentence next ≡ false) × EndsBy (next ∷ others)
+
+  -- a rank and sentences that a text may give, within the limits
+  pub record IsAccountBy (rank : ℕ) (sentences : List Sentence) : Type 0 where
+    pub ranked : IsRankBy rules rank
+    pub each : AllByRecursion IsSentenceBy sentences
+    pub ends : EndsBy sentences
+    pub few_free : sum_by free_names sentences ≤ 200
+    pub few_definitions : sum_by definitions sentences ≤ 2000
+    pub few_params : length (params_of [] sentences) ≤ 64
+    pub few_conclusions : sum_by conclusions sentences ≤ rules.most_conclusions
+
+  -- what a text may give: behind the header, the sentences stand on lines of their own
+  pub record IsGivenBy (c : Account) : Type 0 where
+    pub good : IsAccountBy c.rank (sentences_of c.rows)
+    pub rising : RisesFrom 3 c.rows
+
+-- ---- in version 1
+
+-- a recipe of the grammar
+abbrev pub IsRecipe : Recipe → Type 0
+IsRecipe recipe = IsRecipeBy version_1 recipe
+
+-- a sentence of the grammar
+abbrev pub IsSentence : Sentence → Type 0
+IsSentence sentence = IsSentenceBy version_1 sentence
+
+-- the last of the sentences is a conclusion, and no other is
+abbrev pub EndsOnce : List Sentence → Type 0
+EndsOnce sentences = EndsBy version_1 sentences
+
+-- a rank and sentences that a text may give, within the limits
+abbrev pub IsAccount : ℕ → List Sentence → Type 0
+IsAccount rank sentences = IsAccountBy version_1 rank sentences
+
+-- what a text may give: behind the header, the sentences stand on lines of their own
+abbrev pub IsGiven : Account → Type 0
+IsGiven c = IsGivenBy version_1 c

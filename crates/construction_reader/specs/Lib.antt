@@ -1,4 +1,6 @@
 pub mod Words
+pub mod Rules
+pub mod Tokens
 pub mod Said
 pub mod Seen
 pub mod Outcome

@@ -3,7 +3,9 @@ use Rattle.std.specs.Prelude.{ℕ, Bool, true, false, not, ◌&&◌, ◌||◌, �
 use Rattle.std.specs.List.{list_any, list_all, before_first}
 use Rattle.construction_reader.specs.declared.fault.Kind.{Kind}
 use Rattle.construction_reader.specs.declared.fault.Kind.TheVariants.{Byte, LongName}
-use Rattle.construction_reader.specs.Words.{◌is◌, is_name_byte, is_sign, is_space, tokens_of}
+use Rattle.construction_reader.specs.Words.{◌is◌, is_sign, is_space}
+use Rattle.construction_reader.specs.Rules.{Rules, version_1}
+use Rattle.construction_reader.specs.Tokens.{tokens_of}
 
 -- the byte in front of the first line
 abbrev pub onto_line : ℕ → List (List ℕ) → List (List ℕ)
@@ -28,12 +30,20 @@ unfoldable pub content : List ℕ → List ℕ
 content line = without_comment (without_return line)
 
 -- whether the byte may stand outside comments
-abbrev pub is_allowed : ℕ → Bool
-is_allowed b = is_name_byte b || is_sign b || is_space b
+abbrev pub is_allowed_by : Rules → ℕ → Bool
+is_allowed_by rules b = rules.is_run_byte b || is_sign b || is_space b
 
 -- whether each byte may
+abbrev pub is_clean_by : Rules → List ℕ → Bool
+is_clean_by rules bytes = list_all (is_allowed_by rules) bytes
+
+-- whether the byte may stand outside comments in version 1
+abbrev pub is_allowed : ℕ → Bool
+is_allowed b = is_allowed_by version_1 b
+
+-- whether each byte may in version 1
 abbrev pub is_clean : List ℕ → Bool
-is_clean bytes = list_all is_allowed bytes
+is_clean bytes = is_clean_by version_1 bytes
 
 -- whether a token has more than 32 bytes
 abbrev pub is_long : List ℕ → Bool
@@ -65,7 +75,7 @@ is_deep depth (token ∷ rest) =
     else if token is codes ")" then is_deep (depth - 1) rest
     else is_deep depth rest
 
--- the tokens of a line, or a fault of its bytes
+-- the tokens of a line, or a fault of its bytes, in version 1
 unfoldable pub line_tokens : List ℕ → Result (List (List ℕ)) Kind
 line_tokens line =
     if not (is_clean (content line)) then Err Byte

@@ -30,15 +30,22 @@ pair_of word a b =
     else if word is codes "meet" then Ok (Object.Meet a b)
     else Err Shape
 
--- two objects between parentheses, which the reader of objects reads
+-- two objects, which the reader of objects reads, and what follows them
+unfoldable pub both_at : (List (List ℕ) → Result (Object × List (List ℕ)) Kind) → List (List ℕ)
+    → Result (Object × Object × List (List ℕ)) Kind
+both_at object_of tokens = do
+  a ← object_of tokens
+  b ← object_of a.1
+  Ok (a.0, b.0, b.1)
+
+-- two objects between parentheses
 unfoldable pub pair_at : (List (List ℕ) → Result (Object × List (List ℕ)) Kind) → List (List ℕ)
     → Result (Object × List (List ℕ)) Kind
 pair_at object_of tokens = do
   word ← token_at tokens
-  a ← object_of word.1
-  b ← object_of a.1
-  rest ← after_word (codes ")") b.1
-  pair ← pair_of word.0 a.0 b.0
+  both ← both_at object_of word.1
+  rest ← after_word (codes ")") both.2
+  pair ← pair_of word.0 both.0 both.1
   Ok (pair, rest)
 
 -- an object that is a name

@@ -2,6 +2,7 @@
 use Rattle.std.specs.Prelude.{ℕ, ◌+◌, ◌||◌, Bool, true, List, [], ◌∷◌, ◌++◌, codes, decimal, if◌then◌else◌}
 use Rattle.std.specs.List.{flat_map}
 use Rattle.construction_reader.specs.Words.{◌is◌}
+use Rattle.construction_reader.specs.Rules.{Rules, version_1}
 use Rattle.construction_reader.specs.Said.{Sentence, Row, Account, sentences_of}
 use Rattle.construction_reader.specs.Grammar.{sentence_tokens}
 
@@ -19,11 +20,15 @@ abbrev pub line_text : List (List ℕ) → List ℕ
 line_text tokens = spaced true tokens ++ 10 ∷ []
 
 -- the canonical text: the two lines of the header, and a line for each sentence
-abbrev pub printed : Account → List ℕ
-printed c =
-    line_text (codes "construction" ∷ codes "1" ∷ [])
+abbrev pub printed_by : Rules → Account → List ℕ
+printed_by rules c =
+    line_text (codes "construction" ∷ rules.version ∷ [])
     ++ (line_text (codes "rank" ∷ decimal c.rank ∷ [])
     ++ flat_map (λ row. line_text (sentence_tokens row.sentence)) c.rows)
+
+-- the canonical text in version 1
+abbrev pub printed : Account → List ℕ
+printed c = printed_by version_1 c
 
 -- these sentences on this line and those that follow it
 abbrev pub on_lines : ℕ → List Sentence → List Row

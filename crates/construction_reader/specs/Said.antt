@@ -90,3 +90,7 @@ sentence (body.Conclude conclusion) = Sentence.Conclude (claim conclusion)
 -- what a statement of the code says
 abbrev pub row : Statement → Row
 row s = record { line = s.line; sentence = sentence s.body }
+
+-- what a rank and statements of the code say
+abbrev pub account_of : ℕ → List Statement → Account
+account_of rank statements = record { rank = rank; rows = map row statements }

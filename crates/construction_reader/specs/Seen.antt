@@ -1,8 +1,7 @@
 -- What a construction says.
-use Rattle.std.specs.Prelude.{map}
 use Rattle.construction_reader.specs.declared.construction.Construction.{Construction}
-use Rattle.construction_reader.specs.Said.{Account, row}
+use Rattle.construction_reader.specs.Said.{Account, account_of}
 
 -- what the construction says
 abbrev pub account : Construction → Account
-account c = record { rank = c.rank; rows = map row c.statements }
+account c = account_of c.rank c.statements

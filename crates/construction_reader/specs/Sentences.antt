@@ -9,7 +9,7 @@ use Rattle.construction_reader.specs.Outcome.{◌>>=◌}
 use Rattle.construction_reader.specs.Words.{◌is◌, is_name}
 use Rattle.construction_reader.specs.Said.{Object, Recipe, Claim, Sentence}
 use Rattle.construction_reader.specs.Lines.{has_keyword, is_deep}
-use Rattle.construction_reader.specs.Objects.{token_at, name_at, after_word, object_at}
+use Rattle.construction_reader.specs.Objects.{token_at, name_at, after_word, both_at, object_at}
 
 -- that no token is left
 unfoldable pub ended : List (List ℕ) → Result (Unit {0}) Kind
@@ -33,21 +33,25 @@ behind front read = read >>= λ x. Ok (front ++ x.0, x.1)
 -- two objects, which end the line
 unfoldable pub two_at : List (List ℕ) → Result (Object × Object) Kind
 two_at tokens = do
-  a ← object_at 32 tokens
-  b ← object_at 32 a.1
-  end ← ended b.1
-  Ok (a.0, b.0)
+  both ← both_at (object_at 32) tokens
+  end ← ended both.2
+  Ok (both.0, both.1)
 
--- two objects with two parameters, which end the line
-unfoldable pub on_at : List (List ℕ) → Result Recipe Kind
-on_at tokens = do
-  a ← object_at 32 tokens
-  b ← object_at 32 a.1
-  names ← after_word (codes "with") b.1
+-- `with` and two weights, which end the line
+unfoldable pub weights_at : List (List ℕ) → Result (List ℕ × List ℕ) Kind
+weights_at tokens = do
+  names ← after_word (codes "with") tokens
   s ← name_at names
   t ← name_at s.1
   end ← ended t.1
-  Ok (Recipe.On a.0 b.0 s.0 t.0)
+  Ok (s.0, t.0)
+
+-- two objects with two weights, which end the line
+unfoldable pub on_at : List (List ℕ) → Result Recipe Kind
+on_at tokens = do
+  both ← both_at (object_at 32) tokens
+  weights ← weights_at both.2
+  Ok (Recipe.On both.0 both.1 weights.0 weights.1)
 
 -- five objects, and the one behind `through`, which end the line
 unfoldable pub pascal_at : List (List ℕ) → Result Recipe Kind

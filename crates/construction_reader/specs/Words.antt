@@ -1,6 +1,6 @@
--- The bytes of a line, its tokens, and which tokens are names.
-use Rattle.std.specs.Prelude.{ℕ, Bool, false, not, ◌&&◌, ◌||◌, nat_le, ◌==◌, List, [], ◌∷◌, length, codes, if◌then◌else◌}
-use Rattle.std.specs.List.{list_any, list_all, position_or_len}
+-- The bytes of a line, and which tokens are names.
+use Rattle.std.specs.Prelude.{ℕ, Bool, false, not, ◌&&◌, ◌||◌, nat_le, ◌==◌, List, [], ◌∷◌, length, codes}
+use Rattle.std.specs.List.{list_any, list_all}
 use Rattle.std.specs.Str.{bytes_eq}
 
 -- whether the token is this text
@@ -27,33 +27,6 @@ is_sign b = b == 40 || b == 41 || b == 61
 -- the space and the tab
 abbrev pub is_space : ℕ → Bool
 is_space b = b == 32 || b == 9
-
--- whether a name byte comes first
-abbrev pub begins_with_name_byte : List ℕ → Bool
-begins_with_name_byte [] = false
-begins_with_name_byte (b ∷ bytes) = is_name_byte b
-
--- whether a token begins at this byte, behind none that reaches it
-abbrev pub begins_token : ℕ → Bool
-begins_token b = is_name_byte b || is_sign b
-
--- how many bytes the token at the front has, or 1 at a space
-abbrev pub front_length : List ℕ → ℕ
-front_length bytes = if begins_with_name_byte bytes then position_or_len (λ b. not (is_name_byte b)) bytes else 1
-
--- the byte in front of the first token
-abbrev pub onto_first : ℕ → List (List ℕ) → List (List ℕ)
-onto_first b [] = (b ∷ []) ∷ []
-onto_first b (run ∷ tokens) = (b ∷ run) ∷ tokens
-
--- the tokens: the longest runs of name bytes, and each sign by itself
-unfoldable pub tokens_of : List ℕ → List (List ℕ)
-tokens_of [] = []
-tokens_of (b ∷ bytes) =
-    if is_name_byte b then
-    (if begins_with_name_byte bytes then onto_first b (tokens_of bytes) else (b ∷ []) ∷ tokens_of bytes)
-    else if is_sign b then (b ∷ []) ∷ tokens_of bytes
-    else tokens_of bytes
 
 -- the words that are no names
 abbrev pub keywords : List (List ℕ)

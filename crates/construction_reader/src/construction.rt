@@ -1,9 +1,9 @@
 //! A construction, as a text gives it.
 
-ghost use Rattle.std.specs.Prelude.{map};
-ghost use Rattle.construction_reader.specs.Said.{row};
+ghost use Rattle.construction_reader.specs.Said.{account_of};
+ghost use Rattle.construction_reader.specs.Rules.{version_1};
 ghost use Rattle.construction_reader.specs.Grammar.{IsGiven};
-ghost use Rattle.construction_reader.specs.Given.{IsGiven-prop};
+ghost use Rattle.construction_reader.specs.Given.{IsGivenBy-prop};
 
 use crate::items::Items;
 use crate::types::Statement;
@@ -13,5 +13,5 @@ use crate::types::Statement;
 pub struct Construction {
     pub rank: u8,
     pub statements: Items<Statement>,
-    ghost given: { IsGiven rank (map row statements) } by { IsGiven-prop rank (map row statements) },
+    ghost given: { IsGiven (account_of rank statements) } by { IsGivenBy-prop version_1 (account_of rank statements) },
 }

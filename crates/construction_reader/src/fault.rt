@@ -69,7 +69,7 @@ impl<T: Drop> From<AllocFailed<T>> for ReadTextError {
 }
 
 /// Why a line could not be read.
-#[derive(Debug, Drop)]
+#[derive(Drop)]
 pub enum LineError {
     Fault(Kind),
     Memory,

@@ -3,7 +3,7 @@
 ghost use Rattle.std.specs.Prelude.{◌≡◌};
 ghost use Rattle.construction_reader.specs.Outcome.{Gives};
 ghost use Rattle.construction_reader.specs.Said.{object};
-ghost use Rattle.construction_reader.specs.Objects.{token_at, name_at, after_word, named_at, pair_at, object_at};
+ghost use Rattle.construction_reader.specs.Objects.{token_at, name_at, after_word, named_at, both_at, pair_of, pair_at, object_at};
 
 use crate::fault::{Kind, LineError};
 use crate::name::Name;
@@ -62,6 +62,34 @@ pub fn object<'t, 'a>(
     }
 }
 
+/// Two objects from the front of the tokens, and what follows them.
+#[cycle(objects)]
+#[tactic(auto, unfolding(crate::specs::Objects::both_at))]
+pub fn both<'t, 'a>(
+    alloc: Global,
+    room: u32,
+    tokens: &'t [Token<'a>],
+) -> Result<(Arg, Arg, &'t [Token<'a>]), LineError>
+    ensures { Gives (λ x. (object x.0, object x.1, x.2.now)) result (both_at (object_at room) tokens.now) }
+{
+    let (a, rest) = object(alloc, room, tokens)?;
+    let (b, rest) = object(alloc, room, rest)?;
+    Ok((a, b, rest))
+}
+
+/// The join or meet of two objects, as the word says.
+fn pair_of(alloc: Global, word: &Token, a: Arg, b: Arg) -> Result<Arg, LineError>
+    ensures { Gives object result (pair_of word.now (object a) (object b)) }
+{
+    if word.is(b"join") {
+        Ok(Arg::Join(Box::new(alloc, a)?, Box::new(alloc, b)?))
+    } else if word.is(b"meet") {
+        Ok(Arg::Meet(Box::new(alloc, a)?, Box::new(alloc, b)?))
+    } else {
+        Err(LineError::Fault(Kind::Shape))
+    }
+}
+
 /// A join or meet behind its opening parenthesis.
 #[cycle(objects)]
 #[tactic(auto, unfolding(crate::specs::Objects::pair_at))]
@@ -73,16 +101,9 @@ fn pair<'t, 'a>(
     ensures { Gives (λ x. (object x.0, x.1.now)) result (pair_at (object_at room) tokens.now) }
 {
     let (word, rest) = token(tokens)?;
-    let (a, rest) = object(alloc, room, rest)?;
-    let (b, rest) = object(alloc, room, rest)?;
+    let (a, b, rest) = both(alloc, room, rest)?;
     let rest = after(b")", rest)?;
-    if word.is(b"join") {
-        Ok((Arg::Join(Box::new(alloc, a)?, Box::new(alloc, b)?), rest))
-    } else if word.is(b"meet") {
-        Ok((Arg::Meet(Box::new(alloc, a)?, Box::new(alloc, b)?), rest))
-    } else {
-        Err(LineError::Fault(Kind::Shape))
-    }
+    Ok((pair_of(alloc, word, a, b)?, rest))
 }
 
 #[tactic(auto, unfolding(crate::specs::Objects::named_at))]

@@ -52,24 +52,29 @@ fn put_objects<'a>(out: &mut Vec<Token<'a>>, args: &'a [Arg]) -> Result<(), NoMe
     Ok(())
 }
 
+/// Puts a word, and two objects behind it.
+fn put_two<'a>(
+    out: &mut Vec<Token<'a>>,
+    word: &'a [u8],
+    a: &'a Arg,
+    b: &'a Arg,
+) -> Result<(), NoMemory>
+    ensures { OnOk result (out.new.items
+        ≡ out.old.items ++ word.now ∷ (object_tokens (object a.now) ++ object_tokens (object b.now))) }
+{
+    put(out, word)?;
+    put_object(out, a)?;
+    put_object(out, b)
+}
+
 fn put_expr<'a>(out: &mut Vec<Token<'a>>, expr: &'a Expr) -> Result<(), NoMemory>
     ensures { OnOk result (out.new.items ≡ out.old.items ++ recipe_tokens (recipe expr.now)) }
 {
     match expr {
-        Expr::Join(a, b) => {
-            put(out, b"join")?;
-            put_object(out, a)?;
-            put_object(out, b)
-        }
-        Expr::Meet(a, b) => {
-            put(out, b"meet")?;
-            put_object(out, a)?;
-            put_object(out, b)
-        }
+        Expr::Join(a, b) => put_two(out, b"join", a, b),
+        Expr::Meet(a, b) => put_two(out, b"meet", a, b),
         Expr::On { a, b, s, t } => {
-            put(out, b"on")?;
-            put_object(out, a)?;
-            put_object(out, b)?;
+            put_two(out, b"on", a, b)?;
             put(out, b"with")?;
             put(out, s.bytes())?;
             put(out, t.bytes())

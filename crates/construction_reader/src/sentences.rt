@@ -6,12 +6,12 @@ ghost use Rattle.construction_reader.specs.Words.{is_name};
 ghost use Rattle.construction_reader.specs.Outcome.{Gives};
 ghost use Rattle.construction_reader.specs.Said.{object, objects, recipe, claim as said_claim, sentence};
 ghost use Rattle.construction_reader.specs.Lines.{may_claim, has_keyword, is_deep};
-ghost use Rattle.construction_reader.specs.Sentences.{ended, behind, objects_at, two_at, on_at, pascal_at, recipe_at, definition_at, free_at, counted, claim_of, claim_at, begun_by, shaped, sentence_at};
+ghost use Rattle.construction_reader.specs.Sentences.{ended, behind, objects_at, two_at, weights_at, on_at, pascal_at, recipe_at, definition_at, free_at, counted, claim_of, claim_at, begun_by, shaped, sentence_at};
 
 use crate::fault::{Kind, LineError};
 use crate::items::Items;
 use crate::name::Name;
-use crate::objects::{after, name, object, token};
+use crate::objects::{after, both, name, object, token};
 use crate::tokens::Token;
 use crate::types::{Arg, Body, Conclusion, Expr, ObjectKind};
 use cay_base::NoMemory;
@@ -53,22 +53,28 @@ fn several<'t, 'a>(
 fn two(alloc: Global, tokens: &[Token]) -> Result<(Arg, Arg), LineError>
     ensures { Gives (λ x. (object x.0, object x.1)) result (two_at tokens.now) }
 {
-    let (a, rest) = object(alloc, ROOM, tokens)?;
-    let (b, rest) = object(alloc, ROOM, rest)?;
+    let (a, b, rest) = both(alloc, ROOM, tokens)?;
     end(rest)?;
     Ok((a, b))
+}
+
+#[tactic(auto, unfolding(crate::specs::Sentences::weights_at))]
+fn weights(alloc: Global, tokens: &[Token]) -> Result<(Name, Name), LineError>
+    ensures { Gives (λ x. x) result (weights_at tokens.now) }
+{
+    let rest = after(b"with", tokens)?;
+    let (s, rest) = name(alloc, rest)?;
+    let (t, rest) = name(alloc, rest)?;
+    end(rest)?;
+    Ok((s, t))
 }
 
 #[tactic(auto, unfolding(crate::specs::Sentences::on_at))]
 fn on(alloc: Global, tokens: &[Token]) -> Result<Expr, LineError>
     ensures { Gives recipe result (on_at tokens.now) }
 {
-    let (a, rest) = object(alloc, ROOM, tokens)?;
-    let (b, rest) = object(alloc, ROOM, rest)?;
-    let rest = after(b"with", rest)?;
-    let (s, rest) = name(alloc, rest)?;
-    let (t, rest) = name(alloc, rest)?;
-    end(rest)?;
+    let (a, b, rest) = both(alloc, ROOM, tokens)?;
+    let (s, t) = weights(alloc, rest)?;
     Ok(Expr::On { a, b, s, t })
 }
 

@@ -2,14 +2,15 @@
 
 ghost use Rattle.std.specs.Prelude.{◌≡◌, ℕ, List, IfOk, not, length, ◌<◌};
 ghost use Rattle.std.specs.List.{list_all, position};
-ghost use Rattle.construction_reader.specs.Words.{◌is◌, is_letter, is_name_byte, is_sign, is_name, is_keyword, begins_token, front_length, tokens_of};
+ghost use Rattle.construction_reader.specs.Words.{◌is◌, is_letter, is_name_byte, is_sign, is_name, is_keyword};
+ghost use Rattle.construction_reader.specs.Tokens.{begins_token, front_length, tokens_of};
 
 use cay_base::NoMemory;
 use std::alloc::Global;
 use std::marker::Model;
 
 /// A token: contracts see its bytes.
-#[derive(Debug, Drop)]
+#[derive(Drop)]
 pub struct Token<'a> {
     bytes: &'a [u8],
 }
