@@ -17,6 +17,3 @@ pub use sink::Sink;
 pub use source::Source;
 pub use streams::{StdSink, StdSource};
 pub use whole::{WholeSink, WholeSource};
-
-#[cfg(test)]
-mod tests;

@@ -5,8 +5,6 @@ mod choices;
 pub mod laws;
 mod signed_split;
 mod table;
-#[cfg(test)]
-mod tests;
 
 pub use choices::{Splits, split, split_count};
 pub use signed_split::SignedSplit;

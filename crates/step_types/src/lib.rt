@@ -17,6 +17,3 @@ pub use checks::check;
 pub use fault::{CheckError, StepFault, StepKind};
 pub use laws::{good_construction, one_result};
 pub use names::Names;
-
-#[cfg(test)]
-mod tests;

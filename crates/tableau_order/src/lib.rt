@@ -6,8 +6,6 @@ mod order;
 mod place;
 mod standard;
 mod tableau;
-#[cfg(test)]
-mod tests;
 
 pub use order::compare;
 pub use place::Place;
