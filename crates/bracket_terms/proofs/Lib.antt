@@ -1,3 +1,4 @@
 mod SignLaws
 pub mod ExponentLaws
+pub mod UsedLaws
 pub mod ExtensorLaws

@@ -10,8 +10,6 @@ mod log_use;
 mod params;
 mod sequence;
 mod signed;
-#[cfg(test)]
-mod tests;
 
 pub use bracket::Bracket;
 pub use extensor::Extensor;

@@ -6,7 +6,7 @@ ghost use Rattle.std.specs.Hash as fed;
 ghost use Rattle.std.specs.List.{AllByRecursion};
 ghost use Rattle.std.specs.Ordering.{eq_by_cmp, nat_cmp};
 ghost use Rattle.coordinate_model.specs.Key.{add_exponents};
-ghost use Rattle.bracket_terms.specs.Exponents.{same_exponents};
+ghost use Rattle.bracket_terms.specs.Exponents.{in_use, same_exponents};
 
 use std::cmp::Ordering;
 use std::hash::{Hash, Hasher};
@@ -16,18 +16,24 @@ use std::marker::Model;
 #[derive(Clone, Copy, Debug)]
 pub struct Params {
     exponents: [u16; 64],
+    /// How many exponents there are up to the last that is not 0: only these are compared and hashed.
+    used: u8,
 }
 
 impl Model for Params {
     ghost use Rattle.std.specs.Prelude.{List, ℕ, ◌≡◌, length};
+    ghost use Rattle.std.proofs.Common.{sym};
+    ghost use Rattle.bracket_terms.specs.Exponents.{in_use};
 
     ghost Value = { List ℕ };
 
     ghost view = { λ params. params.exponents };
 
-    ghost invariant = { λ params. length params.exponents ≡ 64 };
+    ghost invariant = { λ params. (length params.exponents ≡ 64) × (params.used ≡ length (in_use params.exponents)) };
 
-    ghost inverse = { λ exponents. record { exponents = exponents } };
+    ghost inverse = { λ exponents. record { exponents = exponents; used = length (in_use exponents) } };
+
+    ghost inverse_ok = { λ params formed. λ j. record { exponents = params.exponents; used = sym formed.1 j } };
 }
 
 impl Params {
@@ -35,7 +41,7 @@ impl Params {
     pub fn one() -> Self
         ensures { result ≡ replicate 64 0 }
     {
-        Params { exponents: [0; 64] }
+        Params::of([0; 64])
     }
 
     /// The parameter `i` alone.
@@ -45,7 +51,18 @@ impl Params {
     {
         let mut exponents = [0; 64];
         exponents[i as usize] = 1;
-        Params { exponents }
+        Params::of(exponents)
+    }
+
+    /// The same product, but for the exponent of the parameter `i`.
+    pub fn with(&self, i: u8, exponent: u16) -> Params
+        requires { i < 64 }
+        ensures exponents { result ≡ slice_set self.now i exponent }
+        ensures count { length result ≡ 64 }
+    {
+        let mut exponents = self.exponents;
+        exponents[i as usize] = exponent;
+        Params::of(exponents)
     }
 
     /// The product of both.
@@ -58,7 +75,7 @@ impl Params {
         for (i, more) in other.exponents.iter().enumerate() {
             exponents[i] += *more;
         }
-        Params { exponents }
+        Params::of(exponents)
     }
 
     /// The exponent of the parameter `i`.
@@ -69,6 +86,35 @@ impl Params {
     {
         self.exponents[i as usize]
     }
+
+    /// The product with these exponents.
+    fn of(exponents: [u16; 64]) -> Params
+        ensures { result ≡ exponents }
+    {
+        Params {
+            exponents,
+            used: used_of(&exponents),
+        }
+    }
+
+    /// The exponents up to the last that is not 0.
+    fn in_use(&self) -> &[u16]
+        ensures used { result.now ≡ in_use self.now }
+        ensures count { length self.now ≡ 64 }
+    {
+        &self.exponents[..self.used as usize]
+    }
+}
+
+/// How many exponents there are up to the last that is not 0.
+fn used_of(exponents: &[u16; 64]) -> u8
+    ensures { result ≡ length (in_use exponents.now) }
+{
+    let mut used: u8 = 64;
+    while used > 0 && exponents[used as usize - 1] == 0 {
+        used -= 1;
+    }
+    used
 }
 
 impl PartialEq for Params {
@@ -106,16 +152,16 @@ impl Ord for Params {
 
     /// Lexicographic, from the exponent of parameter 0 on.
     fn cmp(&self, other: &Self) -> Ordering {
-        self.exponents.cmp(&other.exponents)
+        self.in_use().cmp(other.in_use())
     }
 }
 
 impl Hash for Params {
-    ghost hash_input = { λ params. fed.slice fed.u16 params };
+    ghost hash_input = { λ params. fed.slice fed.u16 (in_use params) };
 
-    ghost respects_eq = { same_exponents (λ params. fed.slice fed.u16 params) };
+    ghost respects_eq = { same_exponents (λ params. fed.slice fed.u16 (in_use params)) };
 
     fn hash<H: Hasher>(&self, state: &mut H) {
-        self.exponents.as_slice().hash(state);
+        self.in_use().hash(state);
     }
 }

@@ -43,7 +43,7 @@ whole e f n h k = ap (add_exponents e) (take_all n f (omega arith))
 
 pub returns-clause-sums : goal.returns-clause-sums
 returns-clause-sums c =
-    c.loop-i.invariant
+    c.of.ensures ∙ c.loop-i.invariant
     ∙ whole c.self.inside.exponents c.other.inside.exponents c.loop-i.i c.other.told c.loop-i-test.false
     ∙ ap (λ e. add_exponents e c.other.inside.exponents) c.self.view_is
     ∙ ap (add_exponents c.args.self.now) c.other.view_is
@@ -54,10 +54,5 @@ counted e f xs n is h k l = ap length (is ∙ whole e f n k l) ∙ length-add_ex
 
 pub returns-clause-count : goal.returns-clause-count
 returns-clause-count c =
-    counted c.self.inside.exponents c.other.inside.exponents c.loop-i.exponents c.loop-i.i c.loop-i.invariant
-    c.self.told c.other.told c.loop-i-test.false
-
-pub invariant_of-result : goal.invariant_of-result
-invariant_of-result c =
-    counted c.self.inside.exponents c.other.inside.exponents c.loop-i.exponents c.loop-i.i c.loop-i.invariant
+    ap length c.of.ensures ∙ counted c.self.inside.exponents c.other.inside.exponents c.loop-i.exponents c.loop-i.i c.loop-i.invariant
     c.self.told c.other.told c.loop-i-test.false
