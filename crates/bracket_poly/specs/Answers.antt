@@ -25,3 +25,14 @@ pub record AddsTerms {X : Type 0} (old : Tracked) (ts : Terms Key) (result : Res
   pub all : OnOk result (new ≡ plus_terms old ts)
   pub refused : IfErr result (λ error. error ≢ Memory → new ≡ plus_terms old (before_limit old ts))
   pub front : AddsFront old ts new
+
+-- the error tells the limit that stops the making
+abbrev pub IsStop : PolyError → Result Tracked Limit → Type 0
+IsStop Coefficient made = made ≡ Err coefficient_limit
+IsStop Keys made = made ≡ Err keys_limit
+IsStop Memory made = ⊤
+
+-- a result, seen by view, is the polynomial that is made, and an error tells the limit
+abbrev pub Answers : {X : Type 0} → (X → Tracked) → Result X PolyError → Result Tracked Limit → Type 0
+Answers view (Ok x) made = made ≡ Ok (view x)
+Answers view (Err error) made = IsStop error made

@@ -7,3 +7,6 @@ pub mod Entries
 pub mod Values
 pub mod Sizes
 pub mod Sections
+pub mod Arena
+pub mod Makings
+pub mod Laws

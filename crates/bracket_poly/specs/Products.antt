@@ -1,5 +1,5 @@
 -- Products of the terms of two polynomials.
-use Rattle.std.specs.Prelude.{◌≡◌, ◌⊎◌, ℕ, ◌≤◌, ℤ, pos, negsuc, ◌*ℤ◌, List, map, Option}
+use Rattle.std.specs.Prelude.{◌≡◌, ◌⊎◌, ℕ, ◌≤◌, ℤ, pos, negsuc, neg_ℤ, ◌*ℤ◌, List, map, Option, Bool, if◌then◌else◌}
 use Rattle.std.specs.List.{AllByRecursion}
 use Rattle.coordinate_model.specs.Sums.{Terms}
 use Rattle.coordinate_model.specs.Key.{Key, key_times, add_exponents}
@@ -26,3 +26,11 @@ product_term row sign t u = (key_times (key_times t.0 u.0) (row_key row), sign *
 -- a term times each of others, the sign and the row
 abbrev pub multiple_terms : Option (List ℕ) → ℤ → Terms Key → Key × ℤ → Terms Key
 multiple_terms row sign us t = map (product_term row sign t) us
+
+-- the integer, negated or as it is
+abbrev pub signed_by : Bool → ℤ → ℤ
+signed_by negative c = if negative then neg_ℤ c else c
+
+-- the terms, each negated or as it is
+abbrev pub signed_terms : Bool → Terms Key → Terms Key
+signed_terms negative ts = map (λ t. (t.0, signed_by negative t.1)) ts

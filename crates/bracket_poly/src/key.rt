@@ -9,6 +9,7 @@ ghost use Rattle.coordinate_model.specs.Key.{key_cmp, key_times, row_cmp, add_ex
 ghost use Rattle.coordinate_model.specs.Words.{ordered};
 ghost use Rattle.coordinate_model.specs.Starts.{row_key};
 ghost use Rattle.bracket_poly.specs.Keys.{key_cmp_total, same_key};
+ghost use Rattle.bracket_terms.specs.Exponents.{in_use};
 
 use bracket_terms::{Bracket, Params};
 use cay_base::NoMemory;
@@ -38,7 +39,8 @@ impl<const D: usize> Model for Key<D> {
 }
 
 impl<const D: usize> Key<D> {
-    pub(crate) fn copy(&self, alloc: Global) -> Result<Key<D>, NoMemory>
+    /// An equal key.
+    pub fn copy(&self, alloc: Global) -> Result<Key<D>, NoMemory>
         requires { IsRank D }
         ensures { IfOk result (λ key. key ≡ self.now) }
     {
@@ -122,9 +124,9 @@ impl<const D: usize> Ord for Key<D> {
 }
 
 impl<const D: usize> Hash for Key<D> {
-    ghost hash_input = { λ key. fed.slice (fed.slice fed.u8) key.rows ++ fed.slice fed.u16 key.exponents };
+    ghost hash_input = { λ key. fed.slice (fed.slice fed.u8) key.rows ++ fed.slice fed.u16 (in_use key.exponents) };
 
-    ghost respects_eq = { same_key (λ key. fed.slice (fed.slice fed.u8) key.rows ++ fed.slice fed.u16 key.exponents) };
+    ghost respects_eq = { same_key (λ key. fed.slice (fed.slice fed.u8) key.rows ++ fed.slice fed.u16 (in_use key.exponents)) };
 
     fn hash<H: Hasher>(&self, state: &mut H) {
         self.tableau.hash(state);

@@ -2,24 +2,34 @@
 #![tactic(auto)]
 
 mod adding;
+mod arena_adding;
+mod arena_finishing;
+mod arena_loading;
+mod arena_poly;
 mod copying;
 mod error;
+mod held;
 mod key;
 pub mod laws;
+mod making;
+mod met;
 mod multiplying;
 mod numbers;
 mod poly;
 mod reading;
 mod section;
 mod terms;
-#[cfg(test)]
-mod tests;
 mod value;
+mod view_key;
 
+pub use arena_poly::ArenaPoly;
 pub use bracket_terms::Items;
 pub use error::PolyError;
+pub use held::Held;
 pub use key::Key;
+pub use met::Met;
 pub use poly::Poly;
 pub use section::{ObjectLog, Section};
 pub use terms::Terms;
 pub use value::Value;
+pub use view_key::ViewKey;
