@@ -28,52 +28,14 @@ use Rattle.shuffle_meet.specs.Adding.{AddsProducts}
 use Rattle.shuffle_meet.proofs.SeenLaws as code
 use Rattle.shuffle_meet.proofs.Sifting.{has_sum}
 use Rattle.shuffle_meet.proofs.Added.{Polys, HasAdded}
-
--- ---- sums of terms that are added one after another
-
-one_term : (f : BracketPolynomial) (t : Key × ℤ) → sum_of key_cmp (t ∷ f.terms) ≡ add f (sum_of key_cmp (t ∷ []))
-one_term f t =
-    terms-add (t ∷ []) f.terms ∙ ap (add (sum_of key_cmp (t ∷ []))) (terms-same f) ∙ add_comm (sum_of key_cmp (t ∷ [])) f
-
-sum_of_terms : (f : Tracked) (ts : Terms Key) → (plus_terms f ts).sum ≡ add f.sum (sum_of key_cmp ts)
-sum_of_terms f [] = sym (ap (add f.sum) (terms-same KeySums.𝟘) ∙ add_zero f.sum)
-sum_of_terms f (t ∷ ts) =
-    sum_of_terms (plus_term f t) ts ∙ ap (λ g. add g (sum_of key_cmp ts)) (one_term f.sum t)
-    ∙ add_assoc f.sum (sum_of key_cmp (t ∷ [])) (sum_of key_cmp ts)
-    ∙ ap (add f.sum) (sym (terms-add (t ∷ []) ts))
-
--- the polynomial of an extensor is its start
-start_of : (x : List ℕ) (ps : List Product) → (tracked_at x ps).sum ≡ start_at x ps
-start_of x ps =
-    sum_of_terms nothing (flat_map terms_of (products_at x ps))
-    ∙ add_comm KeySums.𝟘 (start_at x ps) ∙ add_zero (start_at x ps)
+use Rattle.shuffle_meet.proofs.StartSums.{entries_at, entries-tracked}
 
 -- ---- entries without the keys that they have met
-
-abbrev without_met : Polys → Entries
-without_met polys = map (λ e. (e.0, e.1.sum)) polys
 
 abbrev has_polys : List ℕ × Tracked → Bool
 has_polys e = has_term (e.0, e.1.sum)
 
-unmet_filter : (polys : Polys) → without_met (filter has_polys polys) ≡ filter has_term (without_met polys)
-unmet_filter [] = refl
-unmet_filter (e ∷ es) = step (has_polys e) (unmet_filter es)
-  where
-    step : (b : Bool) → without_met (filter has_polys es) ≡ filter has_term (without_met es)
-        → without_met (cond b (e ∷ filter has_polys es) (filter has_polys es))
-        ≡ cond b ((e.0, e.1.sum) ∷ filter has_term (without_met es)) (filter has_term (without_met es))
-    step true ih = ap (λ fs. (e.0, e.1.sum) ∷ fs) ih
-    step false ih = ih
-
-unmet_starts : (ps : List Product) → without_met (tracked_starts ps) ≡ starts ps
-unmet_starts ps = each (reached ps)
-  where
-    each : (xs : List (List ℕ)) → without_met (map (λ x. (x, tracked_at x ps)) xs) ≡ map (λ x. (x, start_at x ps)) xs
-    each [] = refl
-    each (x ∷ xs) = ap₂ (λ f fs. (x, f) ∷ fs) (start_of x ps) (each xs)
-
-unmet_seen : {d : ℕ} (es : code.Entries d) → without_met (seen es) ≡ value_of es
+unmet_seen : {d : ℕ} (es : code.Entries d) → entries_at (seen es) ≡ value_of es
 unmet_seen [] = refl
 unmet_seen (e ∷ es) = ap (λ fs. entry_of e ∷ fs) (unmet_seen es)
 
@@ -107,7 +69,7 @@ coordinates_of : {d : ℕ} (vs : code.Entries d) (ps : List Product) (K : List �
     → coordinates (value_of vs) K ≡ coordinates (starts ps) K
 coordinates_of vs ps K e =
     ap (λ A. coordinates A K)
-    (sym (unmet_seen vs) ∙ ap without_met e ∙ unmet_filter (tracked_starts ps) ∙ ap (filter has_term) (unmet_starts ps))
+    (sym (unmet_seen vs) ∙ ap entries_at e ∙ entries-tracked ps)
     ∙ zero_entries (starts ps) K
 
 -- values of the code have the step that they say

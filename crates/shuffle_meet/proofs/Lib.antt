@@ -2,6 +2,7 @@ pub mod Reached
 pub mod Added
 pub mod Parts
 pub mod SeenLaws
+pub mod StartSums
 pub mod Sifting
 pub mod JoinSteps
 pub mod Items
@@ -11,4 +12,3 @@ pub mod SizeLaws
 pub mod ObjectSizes
 pub mod MeetSteps
 pub mod MixSteps
-pub mod FreePoints

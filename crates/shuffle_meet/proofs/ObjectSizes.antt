@@ -27,7 +27,7 @@ use Rattle.shuffle_meet.specs.Stops.{tracked_entries}
 use Rattle.shuffle_meet.specs.Seen.{seen}
 use Rattle.shuffle_meet.specs.Objects.{AreJoined, ProductsFit, ParameterFits, joined, met, mixed, AddsSizes, MixesSizes, rows_of_join}
 use Rattle.shuffle_meet.proofs.SeenLaws.{Entries}
-use Rattle.shuffle_meet.proofs.SizeLaws.{ProductWithin, within_product, within_entries, wider_product, all_flat, all_joined, all_at_places}
+use Rattle.shuffle_meet.proofs.SizeLaws.{ProductWithin, within_product, within_entries, wider_product, all_flat, all_at_places}
 use Rattle.shuffle_meet.proofs.Answered.{steps_of}
 
 -- the exponents of a parameter
@@ -56,7 +56,7 @@ module _ (points parameters : ℕ) where
         ps = e.0 ++ f.0
 
         below : AllByRecursion (λ p. p < points) ps
-        below = all_joined (λ p. p < points) e.0 f.0 h.points_below i.points_below
+        below = all_append (λ p. p < points) e.0 f.0 h.points_below i.points_below
 
         sorted_below : AllByRecursion (λ p. p < points) (sorted ps)
         sorted_below = all_ordered nat_cmp (λ p. p < points) ps below
@@ -87,7 +87,7 @@ module _ (points parameters : ℕ) where
 
         below : AllByRecursion (λ p. p < points) ps
         below =
-            all_joined (λ p. p < points) (at_places e.0 t.0) f.0 (all_at_places (λ p. p < points) e.0 t.0 h.points_below)
+            all_append (λ p. p < points) (at_places e.0 t.0) f.0 (all_at_places (λ p. p < points) e.0 t.0 h.points_below)
             i.points_below
 
         product : Product
@@ -112,7 +112,7 @@ module _ (points parameters : ℕ) where
         → AllByRecursion (ProductWithin points parameters (r + s + cond (a + b == d) 1 0) (m + n)) (join_products d A B)
     joins_within d a b [] B p q h i = tt
     joins_within d a b (e ∷ A) B p q h i =
-        all_joined _ (flat_map (join_product d e) B) (join_products d A B) (others B q i) (joins_within d a b A B p.1 q h.1 i)
+        all_append _ (flat_map (join_product d e) B) (join_products d A B) (others B q i) (joins_within d a b A B p.1 q h.1 i)
       where
         room : (f : Entry) → length f.0 ≡ b → length (e.0 ++ f.0) ≡ d → 1 ≤ cond (a + b == d) 1 0
         room f l k =
@@ -123,7 +123,7 @@ module _ (points parameters : ℕ) where
             → AllByRecursion (ProductWithin points parameters (r + s + cond (a + b == d) 1 0) (m + n)) (flat_map (join_product d e) C)
         others [] q i = tt
         others (f ∷ C) q i =
-            all_joined _ (join_product d e f) (flat_map (join_product d e) C)
+            all_append _ (join_product d e f) (flat_map (join_product d e) C)
             (join_pair d (cond (a + b == d) 1 0) e f h.0 i.0 (room f q.0)) (others C q.1 i.1)
 
     meets_within : (d : ℕ) (A B : Listed) → AllByRecursion (HasSize r m) A → AllByRecursion (HasSize s n) B
@@ -139,7 +139,7 @@ module _ (points parameters : ℕ) where
             each : (ts : List (List ℕ × List ℕ))
                 → AllByRecursion (ProductWithin points parameters (r + s + 1) (m + n)) (flat_map (meet_product e f) ts)
             each [] = tt
-            each (t ∷ ts) = all_joined _ (meet_product e f t) (flat_map (meet_product e f) ts) (meet_pair e f t x y) (each ts)
+            each (t ∷ ts) = all_append _ (meet_product e f t) (flat_map (meet_product e f) ts) (meet_pair e f t x y) (each ts)
 
   -- ---- a parameter
 

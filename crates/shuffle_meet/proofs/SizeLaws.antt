@@ -9,7 +9,7 @@ use Rattle.std.specs.declared.cmp.Ordering.{Ordering}
 use Rattle.std.specs.declared.cmp.Ordering.TheVariants.{Less, Equal, Greater}
 use Rattle.coordinate_model.specs.Words.{place, ordered}
 use Rattle.coordinate_model.proofs.SortedRows.{all_ordered}
-use Rattle.coordinate_model.proofs.Splits.{all_so}
+use Rattle.coordinate_model.proofs.Splits.{all_so, all_append}
 use Rattle.coordinate_model.specs.Sums.{Terms}
 use Rattle.coordinate_model.specs.Key.{Key, key_times, row_cmp, add_exponents}
 use Rattle.coordinate_model.specs.BracketPolynomial.{AllKeys}
@@ -18,6 +18,7 @@ use Rattle.coordinate_model.proofs.KeySets.{AllTerms, all_sum_of}
 use Rattle.coordinate_model.proofs.StartKeys.{keys-product, all_products_at}
 use Rattle.bracket_poly.specs.Tracked.{Tracked, has_met, nothing, plus_term, plus_terms}
 use Rattle.bracket_poly.specs.Sizes.{KeyWithin}
+use Rattle.bracket_poly.proofs.Within.{within_times, none_dropped}
 use Rattle.shuffle_meet.specs.Sizes.{IsWithin, MetWithin}
 use Rattle.shuffle_meet.specs.Stops.{tracked_at, tracked_starts, tracked_entries}
 use Rattle.shuffle_meet.specs.Seen.{seen}
@@ -25,15 +26,10 @@ use Rattle.shuffle_meet.proofs.SeenLaws.{Entries}
 
 -- ---- lists
 
-pub all_joined : {A : Type 0} (P : A → Type 0) (xs ys : List A) → AllByRecursion P xs → AllByRecursion P ys
-    → AllByRecursion P (xs ++ ys)
-all_joined P [] ys h k = k
-all_joined P (x ∷ xs) ys h k = (h.0, all_joined P xs ys h.1 k)
-
 pub all_flat : {A B : Type 0} (P : B → Type 0) (f : A → List B) (xs : List A) → AllByRecursion (λ x. AllByRecursion P (f x)) xs
     → AllByRecursion P (flat_map f xs)
 all_flat P f [] h = tt
-all_flat P f (x ∷ xs) h = all_joined P (f x) (flat_map f xs) h.0 (all_flat P f xs h.1)
+all_flat P f (x ∷ xs) h = all_append P (f x) (flat_map f xs) h.0 (all_flat P f xs h.1)
 
 all_of : {A : Type 0} (Q : A → Type 0) → ((x : A) → Q x) → (xs : List A) → AllByRecursion Q xs
 all_of Q f [] = tt
@@ -58,10 +54,6 @@ length_place R v (x ∷ w) = step (is_gt (R v x)) (length_place R v w)
         → length (cond b (x ∷ place R v w) (v ∷ x ∷ w)) ≡ suc (suc (length w))
     step true ih = ap suc ih
     step false ih = refl
-
-length_ordered : {V : Type 0} (R : V → V → Ordering) (w : List V) → length (ordered R w) ≡ length w
-length_ordered R [] = refl
-length_ordered R (v ∷ w) = length_place R v (ordered R w) ∙ ap suc (length_ordered R w)
 
 all_filtered : {A : Type 0} (P : A → Type 0) (test : A → Bool) (xs : List A) → AllByRecursion P xs
     → AllByRecursion P (filter test xs)
@@ -89,59 +81,11 @@ all_reached_by : (P : List ℕ → Type 0) (ps : List Product) → AllByRecursio
 all_reached_by P [] h = tt
 all_reached_by P (p ∷ ps) h = all_put P p.extensor (reached ps) h.0 (all_reached_by P ps h.1)
 
--- ---- exponents
-
-add_small : (e f : ℕ) (xs ys : List ℕ) → AllByRecursion (λ x. x ≤ e) xs → AllByRecursion (λ y. y ≤ f) ys
-    → AllByRecursion (λ z. z ≤ e + f) (add_exponents xs ys)
-add_small e f [] ys h k = all_so (λ y. y ≤ f) (λ z. z ≤ e + f) (λ z l. omega arith) ys k
-add_small e f (x ∷ xs) [] h k = all_so (λ y. y ≤ e) (λ z. z ≤ e + f) (λ z l. omega arith) (x ∷ xs) h
-add_small e f (x ∷ xs) (y ∷ ys) h k =
-    let a : x ≤ e = h.0 in let b : y ≤ f = k.0 in (omega arith, add_small e f xs ys h.1 k.1)
-
-add_none : (xs ys : List ℕ) → AllByRecursion (λ x. x ≡ 0) xs → AllByRecursion (λ y. y ≡ 0) ys
-    → AllByRecursion (λ z. z ≡ 0) (add_exponents xs ys)
-add_none [] ys h k = k
-add_none (x ∷ xs) [] h k = h
-add_none (x ∷ xs) (y ∷ ys) h k =
-    let a : x ≡ 0 = h.0 in let b : y ≡ 0 = k.0 in (omega arith, add_none xs ys h.1 k.1)
-
-drop_add : (m : ℕ) (xs ys : List ℕ) → drop m (add_exponents xs ys) ≡ add_exponents (drop m xs) (drop m ys)
-drop_add zero xs ys = refl
-drop_add (suc m) [] ys = refl
-drop_add (suc m) (x ∷ xs) [] = nothing_more (drop m xs)
-  where
-    nothing_more : (zs : List ℕ) → zs ≡ add_exponents zs []
-    nothing_more [] = refl
-    nothing_more (z ∷ zs) = refl
-drop_add (suc m) (x ∷ xs) (y ∷ ys) = drop_add m xs ys
-
-none_dropped : (m : ℕ) → AllByRecursion (λ (x : ℕ). x ≡ 0) (drop m [])
-none_dropped zero = tt
-none_dropped (suc m) = tt
-
 -- ---- products of keys
 
 module _ (points parameters : ℕ) where
   abbrev HaveRows : List (List ℕ) → Type 0
   HaveRows rows = AllByRecursion (λ row. AllByRecursion (λ p. p < points) row) rows
-
-  pub within_times : (r e s f : ℕ) (k l : Key) → KeyWithin points parameters r e k → KeyWithin points parameters s f l
-      → KeyWithin points parameters (r + s) (e + f) (key_times k l)
-  within_times r e s f k l h i =
-      let long : length (ordered row_cmp (k.rows ++ l.rows)) ≡ length k.rows + length l.rows =
-      length_ordered row_cmp (k.rows ++ l.rows) ∙ length-append k.rows l.rows in
-      let a : length k.rows ≤ r = h.few_rows in
-      let b : length l.rows ≤ s = i.few_rows in
-      record {
-        points_below =
-            all_ordered row_cmp (λ row. AllByRecursion (λ p. p < points) row) (k.rows ++ l.rows)
-            (all_joined _ k.rows l.rows h.points_below i.points_below);
-        no_others =
-            subst (AllByRecursion (λ x. x ≡ 0)) (sym (drop_add parameters k.exponents l.exponents))
-            (add_none (drop parameters k.exponents) (drop parameters l.exponents) h.no_others i.no_others);
-        few_rows = omega arith;
-        small = add_small e f k.exponents l.exponents h.small i.small;
-      }
 
   -- a row as a factor, where no row stands for 1
   within_row : (row : Option (List ℕ)) (more : ℕ) → length (row_key row).rows ≤ more → HaveRows (row_key row).rows
@@ -165,8 +109,8 @@ module _ (points parameters : ℕ) where
     terms =
         keys-product (KeyWithin points parameters r e) (KeyWithin points parameters s f)
         (KeyWithin points parameters (r + s + more) (e + f)) p
-        (λ k l h i. same_degree _ (within_times (r + s) (e + f) more 0 (key_times k l) (row_key p.row)
-        (within_times r e s f k l h i) (within_row p.row more n rows)))
+        (λ k l h i. same_degree _ (within_times points parameters (r + s) (e + f) more 0 (key_times k l) (row_key p.row)
+        (within_times points parameters r e s f k l h i) (within_row p.row more n rows)))
         left right;
   }
     where
@@ -211,7 +155,7 @@ module _ (points parameters : ℕ) where
       where
         met_too : (b : Bool) → AllByRecursion Within (cond b f.met (f.met ++ t.0 ∷ []))
         met_too true = h.met
-        met_too false = all_joined Within f.met (t.0 ∷ []) h.met (k.0, tt)
+        met_too false = all_append Within f.met (t.0 ∷ []) h.met (k.0, tt)
 
     within_at : (x : List ℕ) (ps : List Product) → AllByRecursion (ProductWithin rows degree) ps
         → TrackedWithin (tracked_at x ps)

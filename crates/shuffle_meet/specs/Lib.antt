@@ -3,3 +3,4 @@ pub mod Seen
 pub mod Adding
 pub mod Sizes
 pub mod Objects
+pub mod SectionStarts

@@ -4,6 +4,10 @@ use Rattle.std.specs.Prelude.{ℕ, List, [], ◌∷◌, ◌++◌, map, filter, f
 use Rattle.coordinate_model.specs.Starts.{Product, terms_of, products_at, reached, has_term}
 use Rattle.bracket_poly.specs.Tracked.{Tracked, Limit, nothing, plus_terms, first_limit}
 
+-- a start: an extensor with its polynomial and the keys that it has met
+abbrev pub Start : Type 0
+Start = List ℕ × Tracked
+
 -- the polynomial of the extensor behind these products, with the keys that it has met
 abbrev pub tracked_at : List ℕ → List Product → Tracked
 tracked_at x ps = plus_terms nothing (flat_map terms_of (products_at x ps))
@@ -18,9 +22,9 @@ first_stop before (p ∷ ps) =
     ]
 
 -- each extensor that is reached, with its polynomial and the keys that it has met
-abbrev pub tracked_starts : List Product → List (List ℕ × Tracked)
+abbrev pub tracked_starts : List Product → List Start
 tracked_starts ps = map (λ x. (x, tracked_at x ps)) (reached ps)
 
 -- those of them with a term
-abbrev pub tracked_entries : List Product → List (List ℕ × Tracked)
+abbrev pub tracked_entries : List Product → List Start
 tracked_entries ps = filter (λ e. has_term (e.0, e.1.sum)) (tracked_starts ps)

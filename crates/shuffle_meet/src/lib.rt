@@ -7,8 +7,6 @@ mod meeting;
 mod mixing;
 mod points;
 mod starts;
-#[cfg(test)]
-mod tests;
 
 pub use joining::join;
 pub use meeting::meet;
