@@ -1,4 +1,5 @@
 pub mod Additions
+pub mod AddLemmas
 pub mod CollectedLaws
 pub mod EightBits
 pub mod Falls

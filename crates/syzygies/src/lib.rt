@@ -4,13 +4,13 @@
 mod collect;
 mod collected;
 pub mod laws;
+mod multiple;
 mod pair;
 mod place;
 mod points;
 mod split_term;
-#[cfg(test)]
-mod tests;
 
 pub use collected::syzygy;
+pub use multiple::{add_multiple, product_within};
 pub use pair::PairTerm;
 pub use place::{Parts, at_place};
