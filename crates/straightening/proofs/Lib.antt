@@ -6,5 +6,12 @@ pub mod TurnLaws
 pub mod RunLemmas
 pub mod UseLemmas
 pub mod NextUses
-pub mod AddLemmas
+pub mod PlacedRows
 pub mod SoFar
+pub mod Members
+pub mod BoundLaws
+pub mod ClassLaws
+pub mod TurnableLaws
+pub mod BoundChecks
+mod QueueLaws
+pub mod CoverLaws

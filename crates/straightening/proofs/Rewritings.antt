@@ -52,7 +52,7 @@ pub record IsAdded (d n : ℕ) (k l : Key) : Type 0 where
   pub below : (l ≡ k) ⊎ (key_cmp l k ≡ Less)
 
 -- the integers at a key among mapped terms are those at another among the terms
-count-map : (k l : Key) (m : ℤ) (f : Key → Key) (ts : Terms Key)
+pub count-map : (k l : Key) (m : ℤ) (f : Key → Key) (ts : Terms Key)
     → AllByRecursion (λ t. eq_by_cmp key_cmp k (f t.0) ≡ eq_by_cmp key_cmp l t.0) ts
     → count_at key_cmp k (map (λ t. (f t.0, m *ℤ t.1)) ts) ≡ m *ℤ count_at key_cmp l ts
 count-map k l m f [] h = sym (Ring.mul_zero Integers integer_ring m)

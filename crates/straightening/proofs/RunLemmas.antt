@@ -1,36 +1,25 @@
 -- Runs by their turns: they keep the value, the rank and the classes of keys, and end normal where nothing stops them.
-use Rattle.std.proofs.Common.{◌≡◌, ℕ, zero, suc, List, [], ◌∷◌, ◌++◌, Option, Some, None, refl, sym, ap, subst, ◌∙◌}
+use Rattle.std.proofs.Common.{◌≡◌, ℕ, zero, suc, List, Option, Some, None, refl, sym, ap, subst, ◌∙◌}
 use Rattle.std.specs.Prelude.{ℤ}
 use Rattle.coordinate_model.specs.Sequences.{IsRank}
-use Rattle.coordinate_model.specs.Sums.{Terms, sum_of}
-use Rattle.coordinate_model.specs.Key.{Key, key_cmp, IsKey, points, HasPoints}
-use Rattle.coordinate_model.specs.BracketPolynomial.{AllKeys, BracketPolynomial, IsBracketPolynomial, add}
+use Rattle.coordinate_model.specs.Key.{Key, IsKey, points, HasPoints}
+use Rattle.coordinate_model.specs.BracketPolynomial.{AllKeys, BracketPolynomial, IsBracketPolynomial}
 use Rattle.coordinate_model.specs.BracketPolynomial.{value}
 use Rattle.coordinate_model.specs.Polynomial.{Polynomials}
 use Rattle.coordinate_model.specs.Syzygy.{Use, multiple, additions}
 use Rattle.coordinate_model.proofs.BracketPolynomialLaws.{value_of_sum}
 use Rattle.coordinate_model.proofs.KeySets.{all_plus}
-use Rattle.coordinate_model.proofs.KeySumLaws.{terms-add, terms-same}
 use Rattle.coordinate_model.proofs.PolynomialRing.{polynomial_ring}
-use Rattle.coordinate_model.proofs.StartLaws.{additions_of_multiple}
-use Rattle.bracket_poly.specs.Tracked.{Tracked, Limit, plus_term, plus_terms, first_limit}
-use Rattle.bracket_poly.proofs.Totals.{adds_all}
+use Rattle.bracket_poly.specs.Tracked.{Tracked, Limit, plus_terms, first_limit}
+use Rattle.bracket_poly.proofs.Totals.{use_adds}
 use Rattle.coordinate_model.proofs.Splits.{all_so}
 use Rattle.straightening.specs.Turns.{turn}
 use Rattle.straightening.specs.Runs.{Run, Stop, turns_stop, limit_stop, ended, after_use, run}
-use Rattle.straightening.specs.RunLaws.{AddsMultiple, RunKeepsValue, EndsWell, RunEndsWell, HasLike, KeepsClasses}
+use Rattle.straightening.specs.RunLaws.{RunKeepsValue, EndsWell, RunEndsWell, HasLike, KeepsClasses}
 use Rattle.straightening.specs.RunLaws.{RunKeepsClasses, NoTurnOfNormal, use_points}
 use Rattle.straightening.proofs.Rewritings.{IsAdded, value_multiple, points_here}
 use Rattle.straightening.proofs.TermLists.{all_have_terms, holds_of_term}
 use Rattle.straightening.proofs.TurnLaws.{Taken, taken, keys_added, no_use, standard_no_use}
-
--- ---- a multiple
-
-pub adds_multiple : AddsMultiple
-adds_multiple p u =
-    adds_all p (additions u) ∙ terms-add p.sum.terms (additions u)
-    ∙ ap (λ (f : BracketPolynomial). add f (sum_of key_cmp (additions u))) (terms-same p.sum)
-    ∙ ap (add p.sum) (additions_of_multiple u)
 
 -- ---- one turn
 
@@ -39,13 +28,13 @@ module _ (d n : ℕ) (p : Tracked) (u : Use) (rank : IsRank d) (t : Taken d n p.
   pub keys_after : (P : Key → Type 0) → AllKeys P p.sum → ((l : Key) → IsAdded d n t.term.0 l → P l)
       → AllKeys P (plus_terms p (additions u)).sum
   keys_after P old new =
-      subst (AllKeys P) (sym (adds_multiple p u))
+      subst (AllKeys P) (sym (use_adds p u))
       (all_plus P p.sum (multiple u) old
       (all_so _ _ (λ s a. new s.0 a) (multiple u).terms (keys_added d n p.sum u rank t)))
 
   pub value_after : value (plus_terms p (additions u)).sum ≡ value p.sum
   value_after =
-      ap value (adds_multiple p u) ∙ value_of_sum p.sum (multiple u)
+      ap value (use_adds p u) ∙ value_of_sum p.sum (multiple u)
       ∙ ap (Polynomials.◌⊕◌ (value p.sum))
       (ap (λ (w : Use). value (multiple w)) (sym t.used)
       ∙ value_multiple d n t.term t.row t.column rank t.key t.violation)
@@ -121,12 +110,12 @@ run_ends_well d n budget p rank keys =
 
 -- ---- classes
 
-all_like : (f : BracketPolynomial) → AllKeys (λ k. HasLike f k.exponents (points k.rows)) f
+pub all_like : (f : BracketPolynomial) → AllKeys (λ k. HasLike f k.exponents (points k.rows)) f
 all_like f =
     all_so _ (λ (t : Key × ℤ). HasLike f t.0.exponents (points t.0.rows))
     (λ t h. record { key = t.0; there = h; parameters = refl; same_points = λ i. refl }) f.terms (all_have_terms f)
 
-like_further : (f g : BracketPolynomial) (es ps : List ℕ) → AllKeys (λ k. HasLike f k.exponents (points k.rows)) g
+pub like_further : (f g : BracketPolynomial) (es ps : List ℕ) → AllKeys (λ k. HasLike f k.exponents (points k.rows)) g
     → HasLike g es ps → HasLike f es ps
 like_further f g es ps h l =
     let k : HasLike f l.key.exponents (points l.key.rows) =
@@ -138,25 +127,30 @@ like_further f g es ps h l =
       same_points = λ i. k.same_points i ∙ l.same_points i;
     }
 
-keeps_after : (d n : ℕ) → IsRank d → (p : Tracked) (u : Use) (r : Run) → Formed d n p → turn p.sum ≡ Some u
-    → KeepsClasses (plus_terms p (additions u)) r → KeepsClasses p (after_use u r)
-keeps_after d n rank p u r h e k =
+-- each key behind a turn has the class of one before it
+pub like_after : (d n : ℕ) → IsRank d → (p : Tracked) (u : Use) → Formed d n p → turn p.sum ≡ Some u
+    → AllKeys (λ l. HasLike p.sum l.exponents (points l.rows)) (plus_terms p (additions u)).sum
+like_after d n rank p u h e =
     let t : Taken d n p.sum u = taken d n p.sum u h e in
-    let q : Tracked = plus_terms p (additions u) in
-    let like : AllKeys (λ l. HasLike p.sum l.exponents (points l.rows)) q.sum =
     keys_after d n p u rank t (λ l. HasLike p.sum l.exponents (points l.rows)) (all_like p.sum)
     (λ l a. record {
       key = t.term.0;
       there = t.there;
       parameters = sym a.parameters;
       same_points = λ i. sym (a.same_points i);
-    }) in
+    })
+
+keeps_after : (d n : ℕ) → IsRank d → (p : Tracked) (u : Use) (r : Run) → Formed d n p → turn p.sum ≡ Some u
+    → KeepsClasses (plus_terms p (additions u)) r → KeepsClasses p (after_use u r)
+keeps_after d n rank p u r h e k =
+    let q : Tracked = plus_terms p (additions u) in
+    let like : AllKeys (λ l. HasLike p.sum l.exponents (points l.rows)) q.sum = like_after d n rank p u h e in
     record {
       keys =
           all_so _ _ (λ (s : Key × ℤ) g. like_further p.sum q.sum s.0.exponents (points s.0.rows) like g) r.last.sum.terms
           k.keys;
       uses = (
-        like_taken d n p u rank t,
+        like_taken d n p u rank (taken d n p.sum u h e),
         all_so _ _ (λ (w : Use) g. like_further p.sum q.sum w.exponents (use_points w) like g) r.uses k.uses,
       );
     }

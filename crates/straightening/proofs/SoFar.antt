@@ -45,18 +45,18 @@ spent p o = elim o [ None ↦ ended p None | Some u ↦ ended p (Some turns_stop
 abbrev going : ℕ → Tracked → Option Use → Run
 going n p o = elim o [ None ↦ ended p None | Some u ↦ limited n p u (first_limit p (additions u)) ]
 
-run_none : (n : ℕ) (p : Tracked) → turn p.sum ≡ None → run n p ≡ ended p None
+pub run_none : (n : ℕ) (p : Tracked) → turn p.sum ≡ None → run n p ≡ ended p None
 run_none zero p e = ap (spent p) e
 run_none (suc n) p e = ap (going n p) e
 
-run_spent : (p : Tracked) (u : Use) → turn p.sum ≡ Some u → run zero p ≡ ended p (Some turns_stop)
+pub run_spent : (p : Tracked) (u : Use) → turn p.sum ≡ Some u → run zero p ≡ ended p (Some turns_stop)
 run_spent p u e = ap (spent p) e
 
-run_limit : (n : ℕ) (p : Tracked) (u : Use) (l : Limit) → turn p.sum ≡ Some u → first_limit p (additions u) ≡ Some l
+pub run_limit : (n : ℕ) (p : Tracked) (u : Use) (l : Limit) → turn p.sum ≡ Some u → first_limit p (additions u) ≡ Some l
     → run (suc n) p ≡ ended p (Some (limit_stop l))
 run_limit n p u l e f = ap (going n p) e ∙ ap (limited n p u) f
 
-run_on : (n : ℕ) (p : Tracked) (u : Use) → turn p.sum ≡ Some u → first_limit p (additions u) ≡ None
+pub run_on : (n : ℕ) (p : Tracked) (u : Use) → turn p.sum ≡ Some u → first_limit p (additions u) ≡ None
     → run (suc n) p ≡ after_use u (run n (plus_terms p (additions u)))
 run_on n p u e f = ap (going n p) e ∙ ap (limited n p u) f
 

@@ -46,7 +46,7 @@ less_differs k l e = ap is_eq (key_total.antisymm k l ∙ ap ordering_reverse e)
 pub greater_differs : (k l : Key) → key_cmp k l ≡ Less → eq_by_cmp key_cmp k l ≡ false
 greater_differs k l e = ap is_eq e
 
-all_above : (k : Key) (ts : Terms Key) → T (below_all key_cmp k ts) → AllTerms (λ l. key_cmp k l ≡ Less) ts
+pub all_above : (k : Key) (ts : Terms Key) → T (below_all key_cmp k ts) → AllTerms (λ l. key_cmp k l ≡ Less) ts
 all_above k [] h = tt
 all_above k (t ∷ ts) h = (less _ (first _ _ h), all_above k ts (second _ _ h))
 

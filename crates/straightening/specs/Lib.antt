@@ -1,5 +1,6 @@
 pub mod Turns
 pub mod Runs
 pub mod RunLaws
+pub mod Bounds
 pub mod Results
-pub mod Additions
+pub mod Queues

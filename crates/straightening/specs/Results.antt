@@ -1,5 +1,5 @@
 -- Which answer goes with which run.
-use Rattle.std.specs.Prelude.{◌≡◌, ⊤, ℕ, List, [], map, length, Some, None, Result, Ok, Err}
+use Rattle.std.specs.Prelude.{◌≡◌, ⊤, ℕ, ◌<◌, ◌≤◌, List, [], map, length, Some, None, Result, Ok, Err}
 use Rattle.std.specs.List.{AllByRecursion}
 use Rattle.coordinate_model.specs.Key.{points}
 use Rattle.coordinate_model.specs.BracketPolynomial.{BracketPolynomial, AllKeys, IsNormal, value}
@@ -61,6 +61,14 @@ AnswersInClasses (Err (Coefficient p)) f = UsesKeepClasses f p.uses
 AnswersInClasses (Err (Keys p)) f = UsesKeepClasses f p.uses
 AnswersInClasses (Err Memory) f = ⊤
 
+-- at most so many turns were made, and the budget was spent only where it is less than that
+abbrev pub IsWithin : {d : ℕ} → Result (Straight d) (StopError d) → ℕ → ℕ → Type 0
+IsWithin (Ok s) budget most = s.turns ≤ most
+IsWithin (Err (Turns p)) budget most = (p.turns ≤ most) × (budget < most)
+IsWithin (Err (Coefficient p)) budget most = p.turns ≤ most
+IsWithin (Err (Keys p)) budget most = p.turns ≤ most
+IsWithin (Err Memory) budget most = ⊤
+
 -- nothing was done
 pub record IsUnchanged {d : ℕ} (s : Straight d) (p : TrackedOf d) : Type 0 where
   pub normal : s.normal ≡ p
@@ -70,3 +78,8 @@ pub record IsUnchanged {d : ℕ} (s : Straight d) (p : TrackedOf d) : Type 0 whe
 -- the only normal polynomial with the value of this one
 abbrev pub IsOnlyNormal : ℕ → BracketPolynomial → BracketPolynomial → Type 0
 IsOnlyNormal d f normal = (g : BracketPolynomial) → IsNormal d 64 g → value g ≡ value f → g ≡ normal
+
+-- the answer without what comes with an end
+abbrev pub straight_of : {A B C : Type 0} → Result (A × B) C → Result A C
+straight_of (Ok end) = Ok end.0
+straight_of (Err error) = Err error

@@ -34,10 +34,6 @@ TurnRewritesGreatest =
     (d n : ℕ) (f : BracketPolynomial) (u : Use) → IsRank d → IsBracketPolynomial d n f → turn f ≡ Some u
     → RewritesGreatest d n f u
 
--- adding the terms of a use one after another adds its multiple
-abbrev pub AddsMultiple : Type 0
-AddsMultiple = (p : Tracked) (u : Use) → (plus_terms p (additions u)).sum ≡ add p.sum (multiple u)
-
 -- a run keeps the value
 abbrev pub RunKeepsValue : Type 0
 RunKeepsValue =

@@ -1,13 +1,14 @@
 -- Turns: the rewriting of the greatest key that is not standard by a van der Waerden syzygy (Sturmfels, Algorithms in
 -- Invariant Theory, section 3.1). That the greatest one comes first is this library's own.
-use Rattle.std.specs.Prelude.{ℕ, ◌+◌, ℤ, neg_ℤ, nat_lt, if◌then◌else◌, List, [], ◌∷◌, Option, Some, None, option_map}
-use Rattle.coordinate_model.specs.Sums.{Terms}
+use Rattle.std.specs.Prelude.{◌≡◌, ◌≢◌, ℕ, ◌+◌, ℤ, pos, neg_ℤ, nat_lt, if◌then◌else◌, List, [], ◌∷◌, Option, Some, None, option_map}
+use Rattle.coordinate_model.specs.Sums.{Terms, coefficient}
 use Rattle.coordinate_model.specs.Key.{Key}
 use Rattle.coordinate_model.specs.BracketPolynomial.{BracketPolynomial}
 use Rattle.coordinate_model.specs.Syzygy.{Use}
 use Rattle.tableau_order.specs.Standard.{row_at}
 use Rattle.tableau_order.specs.Violations.{alpha_at, beta_at, gamma_at}
 use Rattle.syzygies.specs.Places.{rest_at}
+use Rattle.straightening.specs.Queues.{without_key}
 
 -- the first column in which the row low is greater than the row high
 abbrev pub first_fall : List ℕ → List ℕ → Option ℕ
@@ -53,3 +54,13 @@ last_use (t ∷ ts) = elim (last_use ts) [ Some u ↦ Some u | None ↦ use_of_t
 -- the turn of a polynomial: the use at its greatest key that is not standard
 abbrev pub turn : BracketPolynomial → Option Use
 turn f = last_use f.terms
+
+-- the key has a term in the polynomial, and the use takes it away
+pub record IsUseAt (f : BracketPolynomial) (key : Key) (u : Use) : Type 0 where
+  pub there : coefficient f key ≢ pos 0
+  pub takes : use_of_term (key, coefficient f key) ≡ Some u
+
+-- what is found at a key of the queue: the use that takes its term away, or that it has none, and then the queue loses it
+abbrev pub FindsAt : BracketPolynomial → List Key → List Key → Key → Option Use → Type 0
+FindsAt f old new key (Some u) = IsUseAt f key u × (new ≡ old)
+FindsAt f old new key None = (coefficient f key ≡ pos 0) × (new ≡ without_key old key)

@@ -1,12 +1,12 @@
 //! The laws of turns and of runs. Each function does nothing; its clauses are the laws.
-ghost use Rattle.straightening.specs.RunLaws.{TurnsWhereNotNormal, TurnRewritesGreatest, AddsMultiple, RunKeepsValue, RunEndsWell, RunKeepsClasses, NoTurnOfNormal};
+ghost use Rattle.straightening.specs.RunLaws.{TurnsWhereNotNormal, TurnRewritesGreatest, RunKeepsValue, RunEndsWell, RunKeepsClasses, NoTurnOfNormal};
+ghost use Rattle.straightening.specs.Bounds.{RunIsBounded, TurnableKeys, RunTakesAtMost};
 
 /// A polynomial has a turn exactly where it is not normal. The turn takes its greatest key away that is not standard, and
-/// else changes only smaller ones: it adds the multiple of the use.
+/// else changes only smaller ones.
 pub fn turns()
     ensures where_not_normal { TurnsWhereNotNormal }
     ensures greatest { TurnRewritesGreatest }
-    ensures multiple { AddsMultiple }
 {}
 
 /// A run keeps the value. What it leaves has the rank of what it began with, and the classes of its keys, and is normal
@@ -16,4 +16,12 @@ pub fn runs()
     ensures ends { RunEndsWell }
     ensures classes { RunKeepsClasses }
     ensures normal { NoTurnOfNormal }
+{}
+
+/// A run takes at most as many turns as there are keys that are not standard in the classes of the terms that it begins
+/// with, and with a budget of so many it never stops for its turns. The list of these keys can be computed.
+pub fn bounds()
+    ensures turns { RunIsBounded }
+    ensures listed { TurnableKeys }
+    ensures most { RunTakesAtMost }
 {}

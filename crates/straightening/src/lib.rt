@@ -3,11 +3,13 @@
 
 pub mod laws;
 mod multiple;
+mod queue;
+mod queue_key;
+mod rows;
 mod run;
 mod straight;
-#[cfg(test)]
-mod tests;
 mod turn;
 
-pub use run::straighten;
+pub use queue::Queue;
+pub use run::{straighten, straighten_in};
 pub use straight::{Partial, StopError, Straight};

@@ -1,25 +1,37 @@
-//! Adding a multiple of a syzygy to a polynomial.
-ghost use Rattle.std.specs.Prelude.{◌≡◌, ◌*ℤ◌, MatchOption, [], ◌∷◌, true, false};
+//! Adding a multiple of a syzygy to a polynomial over an arena, whose keys that are not standard stand in a queue.
+ghost use Rattle.std.specs.Prelude.{◌≡◌, ◌≢◌, [], ◌∷◌, true, pos, T, OnOk, IsSorted};
+ghost use Rattle.coordinate_model.specs.Key.{row_cmp};
+ghost use Rattle.coordinate_model.specs.Sequences.{IsRank};
+ghost use Rattle.coordinate_model.specs.Syzygy.{additions};
 ghost use Rattle.bracket_poly.specs.Answers.{AddsTerms};
+ghost use Rattle.bracket_poly.specs.Arena.{key_of};
 ghost use Rattle.bracket_poly.specs.Tracked.{fits};
 ghost use Rattle.bracket_terms.specs.LogUses.{use_of};
-ghost use Rattle.coordinate_model.specs.Syzygy.{additions};
+ghost use Rattle.syzygies.specs.Additions.{addition};
 ghost use Rattle.syzygies.specs.Terms.{term_of};
-ghost use Rattle.straightening.specs.Additions.{addition};
+ghost use Rattle.straightening.specs.Queues.{Covers, TakesIn};
 
-use bracket_poly::{Key, Poly, PolyError};
-use bracket_terms::LogUse;
+use crate::queue::Queue;
+use crate::rows::fill;
+use bracket_poly::{ArenaPoly, PolyError};
+use bracket_terms::{Bracket, LogUse, Params};
+use cay_base::NoMemory;
 use std::alloc::Global;
-use syzygies::{PairTerm, syzygy};
-use tableau_order::merge;
+use syzygies::{PairTerm, product_within, syzygy};
+use tableau_order::is_standard;
 
 /// Adds the terms of the multiple one after another, in ascending order of their keys, up to the first that passes a limit.
-pub(crate) fn add_multiple<const D: usize>(
+/// The keys that are not standard and had no term go into the queue. The buffer holds the rows of one term.
+pub(crate) fn add_multiple<'a, const D: usize>(
     alloc: Global,
-    poly: &mut Poly<D>,
+    poly: &mut ArenaPoly<'a, D>,
+    queue: &mut Queue<'a, D>,
+    buffer: &mut Vec<Bracket<D>>,
     log_use: &LogUse<D>,
 ) -> Result<(), PolyError>
-    ensures { AddsTerms poly.old.tracked (additions (use_of log_use.now)) result poly.new.tracked }
+    requires covers { Covers D queue.old poly.old.tracked.sum }
+    ensures adds { AddsTerms poly.old.tracked (additions (use_of log_use.now)) result poly.new.tracked }
+    ensures covers { OnOk result (Covers D queue.new poly.new.tracked.sum) }
 {
     let Ok(pairs) = syzygy(
         alloc,
@@ -30,37 +42,70 @@ pub(crate) fn add_multiple<const D: usize>(
         return Err(PolyError::Memory);
     };
     for pair in &pairs {
-        add_pair(alloc, poly, log_use, pair)?;
+        add_pair(poly, queue, buffer, log_use, pair)?;
     }
     Ok(())
 }
 
 /// Adds one term of the multiple.
-fn add_pair<const D: usize>(
-    alloc: Global,
-    poly: &mut Poly<D>,
+fn add_pair<'a, const D: usize>(
+    poly: &mut ArenaPoly<'a, D>,
+    queue: &mut Queue<'a, D>,
+    buffer: &mut Vec<Bracket<D>>,
     log_use: &LogUse<D>,
     pair: &PairTerm<D>,
 ) -> Result<(), PolyError>
-    ensures { AddsTerms poly.old.tracked (addition (use_of log_use.now) (term_of pair.now) ∷ []) result poly.new.tracked }
+    requires covers { Covers D queue.old poly.old.tracked.sum }
+    ensures adds { AddsTerms poly.old.tracked (addition (use_of log_use.now) (term_of pair.now) ∷ []) result poly.new.tracked }
+    ensures covers { OnOk result (Covers D queue.new poly.new.tracked.sum) }
 {
     let Some(product) = product_within(log_use.multiplier, pair.sign_count) else {
         return Err(PolyError::Coefficient);
     };
-    let Ok(tableau) = merge(alloc, log_use.rest.items(), &[pair.low, pair.high]) else {
+    let Ok(()) = fill(buffer, log_use.rest.items(), &pair.low, &pair.high) else {
         return Err(PolyError::Memory);
     };
-    let key = Key {
-        params: log_use.params,
-        tableau,
-    };
-    poly.add(key, product)
+    add_term(poly, queue, &log_use.params, buffer, product)
 }
 
-/// The product, where it is at most 2^127 - 1 in absolute value.
-fn product_within(a: i128, b: i8) -> Option<i128>
-    ensures { MatchOption result (fits (a *ℤ b) ≡ false) (λ product. (product ≡ a *ℤ b) × (fits product ≡ true)) }
+/// Adds a term.
+fn add_term<'a, const D: usize>(
+    poly: &mut ArenaPoly<'a, D>,
+    queue: &mut Queue<'a, D>,
+    params: &Params,
+    rows: &[Bracket<D>],
+    c: i128,
+) -> Result<(), PolyError>
+    requires ascending { IsSorted row_cmp rows.now }
+    requires not_zero { c ≢ pos 0 }
+    requires small { T (fits c) }
+    requires covers { Covers D queue.old poly.old.tracked.sum }
+    ensures adds { AddsTerms poly.old.tracked ((key_of params.now rows.now, c) ∷ []) result poly.new.tracked }
+    ensures covers { OnOk result (Covers D queue.new poly.new.tracked.sum) }
 {
-    a.checked_mul(i128::from(b))
-        .filter(|product| *product != i128::MIN)
+    let (view, fresh) = poly.add_term(params, rows, c)?;
+    if !fresh {
+        return Ok(());
+    }
+    let Ok(()) = take_in(queue, params, view) else {
+        return Err(PolyError::Memory);
+    };
+    Ok(())
+}
+
+/// Puts the key in, unless it is standard.
+pub(crate) fn take_in<'a, const D: usize>(
+    queue: &mut Queue<'a, D>,
+    params: &Params,
+    rows: &'a [Bracket<D>],
+) -> Result<(), NoMemory>
+    requires rank { IsRank D }
+    requires ascending { IsSorted row_cmp rows.now }
+    ensures { OnOk result (TakesIn D queue.old queue.new (key_of params.now rows.now)) }
+{
+    if is_standard(rows) {
+        return Ok(());
+    }
+    queue.put(*params, rows)?;
+    Ok(())
 }

@@ -1,4 +1,3 @@
-use Rattle.straightening.proofs.RunLemmas.{adds_multiple}
 use Rattle.straightening.proofs.TurnLaws.{turns_where_not_normal, rewrites_greatest}
 use Rattle.straightening.proofs.laws.turns.Goals as goal
 
@@ -7,6 +6,3 @@ returns-clause-where_not_normal c = turns_where_not_normal
 
 pub returns-clause-greatest : goal.returns-clause-greatest
 returns-clause-greatest c = rewrites_greatest
-
-pub returns-clause-multiple : goal.returns-clause-multiple
-returns-clause-multiple c = adds_multiple

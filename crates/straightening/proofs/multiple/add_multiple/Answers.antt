@@ -8,25 +8,25 @@ use Rattle.bracket_terms.specs.LogUses.{use_of}
 use Rattle.coordinate_model.specs.Sums.{Terms}
 use Rattle.coordinate_model.specs.Key.{Key}
 use Rattle.coordinate_model.specs.Syzygy.{Use}
+use Rattle.syzygies.specs.Additions.{addition}
 use Rattle.syzygies.specs.declared.pair.PairTerm.{PairTerm}
 use Rattle.syzygies.specs.Terms.{term_of, terms_of}
-use Rattle.straightening.specs.Additions.{addition}
-use Rattle.straightening.proofs.AddLemmas.{next_pair, all_additions}
+use Rattle.syzygies.proofs.AddLemmas.{next_pair, all_additions}
 use Rattle.straightening.proofs.multiple.add_multiple.Goals as goal
 
-pub returns-in_err-add_pair : goal.returns-in_err-add_pair
-returns-in_err-add_pair g c =
+pub returns-in_err-add_pair-clause-adds : goal.returns-in_err-add_pair-clause-adds
+returns-in_err-add_pair-clause-adds g c =
     let u : Use = use_of c.args.log_use.now in
     let one : PairTerm g.row.D → Terms Key = λ p. addition u (term_of p) ∷ [] in
     let pairs : List (PairTerm g.row.D) = c.deref-pair-items.result.now in
     let error : PolyError = c.in_err-add_pair.field-0.0 in
     let added : AddsTerms {X = ⊤} c.loop-pair.poly.tracked (one c.pair-item.result) (Err error) c.add_pair.new.poly.tracked =
-    c.in_err-add_pair.ensures in
+    c.in_err-add_pair.ensures.adds in
     with_error _ _ _ _ error (handed_on c.from_residual.result error c.from_residual.ensures.1)
     (adds_listed _ _ _ _ _
     (all_additions g.row.D u pairs _ _ _ c.items.ensures c.items-2.ensures c.items-3.ensures
     (ap terms_of c.deref-pair-items.ensures.value ∙ c.in-Ok.ensures.terms))
-    (error_item one _ _ _ pairs _ _ _ error c.loop-pair.invariant
+    (error_item one _ _ _ pairs _ _ _ error c.loop-pair.invariant.0
     (next_pair pairs c.loop-pair.pair-index c.pair-item.result c.loop-pair-test.true c.pair-item.is) added))
 
 pub loop-pair-preserved : goal.loop-pair-preserved
@@ -35,18 +35,20 @@ loop-pair-preserved g c =
     let one : PairTerm g.row.D → Terms Key = λ p. addition u (term_of p) ∷ [] in
     let pairs : List (PairTerm g.row.D) = c.deref-pair-items.result.now in
     let so_far : SoFar one c.args.poly.now.tracked c.loop-pair.poly.tracked pairs (drop c.loop-pair.pair-index pairs) =
-    c.loop-pair.invariant in
-    next_item one _ _ _ pairs _ _ _ c.in_ok-add_pair.field-0 so_far
-    (next_pair pairs c.loop-pair.pair-index c.pair-item.result c.loop-pair-test.true c.pair-item.is)
-    c.in_ok-add_pair.ensures
+    c.loop-pair.invariant.0 in (
+      next_item one _ _ _ pairs _ _ _ c.in_ok-add_pair.field-0 so_far
+          (next_pair pairs c.loop-pair.pair-index c.pair-item.result c.loop-pair-test.true c.pair-item.is)
+          c.in_ok-add_pair.ensures.adds,
+      c.in_ok-add_pair.ensures.covers,
+    )
 
-pub returns : goal.returns
-returns g c =
+pub returns-clause-adds : goal.returns-clause-adds
+returns-clause-adds g c =
     let u : Use = use_of c.args.log_use.now in
     let one : PairTerm g.row.D → Terms Key = λ p. addition u (term_of p) ∷ [] in
     let pairs : List (PairTerm g.row.D) = c.deref-pair-items.result.now in
     let so_far : SoFar one c.args.poly.now.tracked c.loop-pair.poly.tracked pairs (drop c.loop-pair.pair-index pairs) =
-    c.loop-pair.invariant in
+    c.loop-pair.invariant.0 in
     adds_listed _ _ _ _ _
     (all_additions g.row.D u pairs _ _ _ c.items.ensures c.items-2.ensures c.items-3.ensures
     (ap terms_of c.deref-pair-items.ensures.value ∙ c.in-Ok.ensures.terms))

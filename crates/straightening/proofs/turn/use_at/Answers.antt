@@ -1,6 +1,7 @@
-use Rattle.std.proofs.Common.{rules, ◌≡◌, ℤ, ap, subst, sym, ◌∙◌}
+use Rattle.std.proofs.Common.{rules, ℤ, subst, sym, ◌∙◌, refl}
 use mir.Syntax.{w128}
 use mir.Val.{SFits}
+use Rattle.bracket_poly.specs.Arena.{key_of}
 use Rattle.bracket_terms.specs.Uses.{IsLogUse}
 use Rattle.coordinate_model.specs.Key.{Key}
 use Rattle.coordinate_model.specs.Syzygy.{Use}
@@ -12,17 +13,15 @@ multiplier-requires-clause-sign g c = is_sign _ c.at_place-parts.ensures.one
 
 pub invariant_of-result : goal.invariant_of-result
 invariant_of-result g c =
-    let rows : c.rows-rows.result.now ≡ c.args.key.now.rows =
-    c.rows-rows.ensures.rows ∙ ap (λ (k : Key). k.rows) c.key.view_is in
     let number : SFits w128 c.multiplier.result = search rules in
-    let t : Key × ℤ = (c.args.key.now, c.args.c) in
+    let t : Key × ℤ = (key_of c.args.params.now c.args.rows.now, c.args.c) in
     record {
       formed =
           subst (λ (u : Use). IsLogUse g.row.D u)
           (sym (same_use g.row.D t _ _ _ c.at_place-parts.result _ _ _ _ _ _ c.requires.rank c.requires.key
-          c.requires.violation rows c.at_place-parts.ensures.parts
+          c.requires.violation refl c.at_place-parts.ensures.parts
           (multiplier_is _ c.args.c _ number c.ranges.c c.at_place-parts.ensures.one c.multiplier.ensures)
-          (ap (λ (k : Key). k.exponents) c.key.view_is) (c.of.ensures ∙ c.in_ok-rest.ensures)
+          refl (c.of.ensures ∙ c.in_ok-rest.ensures)
           (c.of-2.ensures ∙ c.in_ok-alpha.ensures.items_if_clones_equal (λ x y e. e))
           (c.of-3.ensures ∙ c.in_ok-beta.ensures.items_if_clones_equal (λ x y e. e))
           (c.of-4.ensures ∙ c.in_ok-gamma.ensures.items_if_clones_equal (λ x y e. e))))
@@ -32,13 +31,11 @@ invariant_of-result g c =
 
 pub returns : goal.returns
 returns g c =
-    let rows : c.rows-rows.result.now ≡ c.args.key.now.rows =
-    c.rows-rows.ensures.rows ∙ ap (λ (k : Key). k.rows) c.key.view_is in
     let number : SFits w128 c.multiplier.result = search rules in
-    same_use g.row.D (c.args.key.now, c.args.c) _ _ _ c.at_place-parts.result _ _ _ _ _ _ c.requires.rank c.requires.key
-    c.requires.violation rows c.at_place-parts.ensures.parts
+    same_use g.row.D (key_of c.args.params.now c.args.rows.now, c.args.c) _ _ _ c.at_place-parts.result _ _ _ _ _ _
+    c.requires.rank c.requires.key c.requires.violation refl c.at_place-parts.ensures.parts
     (multiplier_is _ c.args.c _ number c.ranges.c c.at_place-parts.ensures.one c.multiplier.ensures)
-    (ap (λ (k : Key). k.exponents) c.key.view_is) (c.of.ensures ∙ c.in_ok-rest.ensures)
+    refl (c.of.ensures ∙ c.in_ok-rest.ensures)
     (c.of-2.ensures ∙ c.in_ok-alpha.ensures.items_if_clones_equal (λ x y e. e))
     (c.of-3.ensures ∙ c.in_ok-beta.ensures.items_if_clones_equal (λ x y e. e))
     (c.of-4.ensures ∙ c.in_ok-gamma.ensures.items_if_clones_equal (λ x y e. e))
