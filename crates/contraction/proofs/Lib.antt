@@ -1,0 +1,9 @@
+pub mod Swaps
+pub mod ThreeTermLaws
+pub mod ThreeTermSigns
+pub mod PassChecks
+pub mod PairLaws
+pub mod RowCounts
+pub mod PassTerms
+pub mod FewerTerms
+pub mod PassRuns
