@@ -1,9 +1,7 @@
-pub mod Steps
+pub mod Rows
 pub mod Sums
 pub mod Graded
 pub mod Degrees
-pub mod RowSteps
-pub mod TermSteps
 pub mod Sixes
 pub mod SizeLaws
-pub mod FreePoints
+pub mod Formed

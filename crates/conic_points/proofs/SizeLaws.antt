@@ -1,91 +1,26 @@
 -- How large the keys of the six-point polynomial are.
-use Rattle.std.specs.Prelude.{◌≡◌, ℕ, zero, suc, ◌+◌, ◌*◌, ◌<◌, ◌≤◌, sum, List, [], ◌∷◌, ◌++◌, drop, length, map, Ok}
+use Rattle.std.specs.Prelude.{◌≡◌, ℕ, suc, ◌+◌, ◌*◌, ◌<◌, sum, List, [], ◌∷◌, length, map, Ok}
 use Rattle.std.specs.List.{AllByRecursion}
-use Rattle.std.specs.Ordering.{nat_cmp}
-use Rattle.std.proofs.Common.{refl, sym, ap, subst, subst₂, ◌∙◌, arith, lit≤, length-append}
-use Rattle.coordinate_model.specs.Words.{ordered}
-use Rattle.coordinate_model.specs.Key.{Key, key_times, row_cmp, add_exponents, rows_key}
-use Rattle.coordinate_model.specs.Syzygy.{sorted}
+use Rattle.std.proofs.Common.{refl, sym, ap, subst, subst₂, ◌∙◌}
 use Rattle.coordinate_model.specs.Value.{Value as Entries}
-use Rattle.coordinate_model.proofs.KeySizes.{added_up_to, length-in_order}
-use Rattle.coordinate_model.proofs.SortedRows.{all_ordered}
-use Rattle.coordinate_model.proofs.Splits.{all_append}
 use Rattle.bracket_terms.specs.declared.extensor.Extensor.{Extensor}
-use Rattle.bracket_poly.specs.Tracked.{Tracked}
 use Rattle.bracket_poly.specs.Kept.{TrackedOf}
-use Rattle.bracket_poly.specs.declared.value.Value.{Value}
+use Rattle.bracket_poly.specs.Sizes.{KeyWithin, EntryWithin, PolyWithin, AreWithin}
+use Rattle.bracket_poly.specs.Tracked.{Tracked}
 use Rattle.bracket_poly.specs.Values.{value_of}
+use Rattle.bracket_poly.specs.declared.value.Value.{Value}
+use Rattle.bracket_poly.proofs.Within.{within_times, within_none, within_row}
 use Rattle.conic_points.specs.Makings.{made_of}
 use Rattle.conic_points.specs.Points.{values_of}
-use Rattle.bracket_poly.specs.Sizes.{KeyWithin, EntryWithin}
-use Rattle.conic_points.specs.Sizes.{AreWithin, PolyWithin, DoublesSizes}
-use Rattle.conic_points.proofs.Sixes.{AreSix, six_of}
+use Rattle.conic_points.specs.Sizes.{DoublesSizes}
 use Rattle.conic_points.proofs.Graded.{ValueHas, conic_has}
-
--- ---- exponents
-
-add_none : (xs ys : List ℕ) → AllByRecursion (λ x. x ≡ 0) xs → AllByRecursion (λ y. y ≡ 0) ys
-    → AllByRecursion (λ z. z ≡ 0) (add_exponents xs ys)
-add_none [] ys h k = k
-add_none (x ∷ xs) [] h k = h
-add_none (x ∷ xs) (y ∷ ys) h k =
-    let a : x ≡ 0 = h.0 in let b : y ≡ 0 = k.0 in (omega arith, add_none xs ys h.1 k.1)
-
-drop_add : (m : ℕ) (xs ys : List ℕ) → drop m (add_exponents xs ys) ≡ add_exponents (drop m xs) (drop m ys)
-drop_add zero xs ys = refl
-drop_add (suc m) [] ys = refl
-drop_add (suc m) (x ∷ xs) [] = nothing_more (drop m xs)
-  where
-    nothing_more : (zs : List ℕ) → zs ≡ add_exponents zs []
-    nothing_more [] = refl
-    nothing_more (z ∷ zs) = refl
-drop_add (suc m) (x ∷ xs) (y ∷ ys) = drop_add m xs ys
-
-none_dropped : (m : ℕ) → AllByRecursion (λ (x : ℕ). x ≡ 0) (drop m [])
-none_dropped zero = tt
-none_dropped (suc m) = tt
-
--- ---- keys
+use Rattle.conic_points.proofs.Sixes.{AreSix, six_of}
 
 module _ (points parameters : ℕ) where
-  abbrev Within : ℕ → ℕ → Key → Type 0
-  Within = KeyWithin points parameters
-
-  abbrev Below : ℕ → Type 0
-  Below p = p < points
-
-  within_times : (r e s f : ℕ) (k l : Key) → Within r e k → Within s f l → Within (r + s) (e + f) (key_times k l)
-  within_times r e s f k l h i =
-      let long : length (ordered row_cmp (k.rows ++ l.rows)) ≡ length k.rows + length l.rows =
-      length-in_order row_cmp (k.rows ++ l.rows) ∙ length-append k.rows l.rows in
-      let a : length k.rows ≤ r = h.few_rows in
-      let b : length l.rows ≤ s = i.few_rows in
-      record {
-        points_below =
-            all_ordered row_cmp (AllByRecursion Below) (k.rows ++ l.rows)
-            (all_append _ k.rows l.rows h.points_below i.points_below);
-        no_others =
-            subst (AllByRecursion (λ x. x ≡ 0)) (sym (drop_add parameters k.exponents l.exponents))
-            (add_none (drop parameters k.exponents) (drop parameters l.exponents) h.no_others i.no_others);
-        few_rows = omega arith;
-        small = added_up_to e f k.exponents l.exponents h.small i.small;
-      }
-
-  within_none : Within 0 0 (rows_key [])
-  within_none = record { points_below = tt; no_others = none_dropped parameters; few_rows = lit≤ tt; small = tt }
-
-  within_row : (ps : List ℕ) → AllByRecursion Below ps → Within 1 0 (rows_key (sorted ps ∷ []))
-  within_row ps h = record {
-    points_below = (all_ordered nat_cmp Below ps h, tt);
-    no_others = none_dropped parameters;
-    few_rows = lit≤ tt;
-    small = tt;
-  }
-
-  -- ---- points
-
   abbrev Sized : ℕ × ℕ → Entries → Type 0
-  Sized = ValueHas Within Below within_times within_none within_row
+  Sized =
+      ValueHas (KeyWithin points parameters) (λ p. p < points) (within_times points parameters) (within_none points parameters)
+      (within_row points parameters)
 
   sized : {d : ℕ} (s : ℕ × ℕ) (es : List (Extensor × TrackedOf d)) → AllByRecursion (EntryWithin points parameters s.0 s.1) es
       → Sized s (value_of es)
@@ -118,7 +53,7 @@ doubles {d} six p long made points parameters sizes h =
         → PolyWithin points parameters (2 * sum (map (λ s. s.0) (s1 ∷ s2 ∷ s3 ∷ s4 ∷ s5 ∷ s6 ∷ [])) + 4)
         (2 * sum (map (λ s. s.1) (s1 ∷ s2 ∷ s3 ∷ s4 ∷ s5 ∷ s6 ∷ []))) p
     of_six v1 v2 v3 v4 v5 v6 s1 s2 s3 s4 s5 s6 e h =
-        let all = conic_has (Within points parameters) (Below points parameters) (within_times points parameters)
+        let all = conic_has (KeyWithin points parameters) (λ p. p < points) (within_times points parameters)
         (within_none points parameters) (within_row points parameters) s1 s2 s3 s4 s5 s6 (value_of v1.entries)
         (value_of v2.entries) (value_of v3.entries) (value_of v4.entries) (value_of v5.entries) (value_of v6.entries) p e
         record {

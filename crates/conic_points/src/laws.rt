@@ -1,7 +1,9 @@
-//! What the making of the six-point polynomial gives. The function does nothing; its clause says it.
-ghost use Rattle.conic_points.specs.Laws.{MadeConic};
+//! What the makings give. The functions do nothing; their clauses say it.
+ghost use Rattle.conic_points.specs.Laws.{MadeBracket, MadeConic, MadeIsFormed};
 
-/// The polynomial that is made is the six-point polynomial of the values.
+/// What is made is the bracket of the values, and the six-point polynomial of them, which is of rank 3.
 pub fn makings()
-    ensures { MadeConic }
+    ensures bracket { MadeBracket }
+    ensures conic { MadeConic }
+    ensures formed { MadeIsFormed }
 {}

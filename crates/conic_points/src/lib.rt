@@ -1,13 +1,9 @@
-//! The six-point polynomial of six points of the plane.
+//! Brackets of points that are values, and the six-point polynomial of six points of the plane.
 #![tactic(auto)]
 
 mod brackets;
 pub mod laws;
-mod products;
-mod rows;
 mod six_points;
-mod terms;
-#[cfg(test)]
-mod tests;
 
+pub use brackets::bracket;
 pub use six_points::conic;

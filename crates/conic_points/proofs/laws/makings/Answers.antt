@@ -1,6 +1,12 @@
--- What is made is the six-point polynomial.
-use Rattle.conic_points.proofs.Sums.{conic_sum}
+use Rattle.conic_points.proofs.Formed.{conic_formed}
+use Rattle.conic_points.proofs.Sums.{bracket_sum, conic_sum}
 use Rattle.conic_points.proofs.laws.makings.Goals as goal
 
-pub returns : goal.returns
-returns c = conic_sum
+pub returns-clause-bracket : goal.returns-clause-bracket
+returns-clause-bracket c = bracket_sum
+
+pub returns-clause-conic : goal.returns-clause-conic
+returns-clause-conic c = conic_sum
+
+pub returns-clause-formed : goal.returns-clause-formed
+returns-clause-formed c = conic_formed
