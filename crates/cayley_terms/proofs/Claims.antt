@@ -1,8 +1,8 @@
 -- Lowered claims are those of the text.
 use Rattle.std.proofs.Common.{◌≡◌, ℕ, ◌+◌, ◌-◌, ◌*◌, ◌≤◌, true, List, [], ◌∷◌, length, map, Some, ap, ◌∙◌, refl, arith}
-use Rattle.std.specs.Prelude.{IsTrue}
 use Rattle.std.specs.List.{AllByRecursion}
 use Rattle.std.proofs.lemmas.Bool.{eqb-true}
+use Rattle.std.proofs.lemmas.List.{length-map}
 use Rattle.construction_reader.specs.Said.{Object, Claim}
 use Rattle.construction_reader.specs.Grammar.{IsClaim}
 use Rattle.step_types.specs.declared.measure.Measure.{Measure}
@@ -12,12 +12,12 @@ use Rattle.step_types.specs.Rules.{claim_fits}
 use Rattle.cayley_terms.specs.declared.instr.Instr.{Instr}
 use Rattle.cayley_terms.specs.declared.instr.Instr.TheVariants as instr
 use Rattle.cayley_terms.specs.Figures.{Figure, joined, met, from_left}
-use Rattle.cayley_terms.specs.Meaning.{Frame, object_figure, claim_figure}
-use Rattle.cayley_terms.specs.Straight.{Lowered, objects_lowered, from_left_lowered, claim_lowered}
-use Rattle.cayley_terms.specs.Built.{is_built_claim}
+use Rattle.cayley_terms.specs.Meaning.{Frame, object_figure, conic_figure, claim_figure}
+use Rattle.cayley_terms.specs.Straight.{Lowered, objects_lowered, from_left_lowered, conic_lowered, claim_lowered}
 use Rattle.cayley_terms.proofs.Measured.{some_then, some_same, at_step}
 use Rattle.cayley_terms.proofs.Sound.{keeps_on, IsSound}
 use Rattle.cayley_terms.proofs.Objects.{AreTied}
+use Rattle.cayley_terms.proofs.SixPoints.{conic_concludes}
 use Rattle.cayley_terms.proofs.Chains.{steps_in, rows_in, degrees_in, AreMeasured, AreAt, makes_objects, Concludes, joins_conclude, meets_conclude}
 
 -- objects of this step, with their rows and degrees
@@ -209,13 +209,40 @@ module _ (F : Frame) (d used : ℕ) where
         joins_claim line os s parts.all sound tied parts.measured (omega arith) (omega arith)
         (steps_alike step parts.all parts.steps ∙ ap (λ n. n * step) count ∙ whole) (omega arith) (omega arith)
 
-    -- a claim that is lowered so far
+    -- the six-point polynomial of six points of rank 3
+    conic_claim : (line : ℕ) (os : List Object) (s : Lowered) (rows degree : ℕ) → IsSound F d used s fs ms
+        → AreTied F d used s.instrs s.numbers made objects → HasParts d made 1 os rows degree → length os ≡ 6 → d ≡ 3
+        → 2 * rows + 4 ≤ 64 → 2 * degree ≤ 1000
+        → Concludes F d used s fs ms
+        (let r = objects_lowered line os s in conic_lowered line r.1 r.0).0
+        (conic_figure F (map (object_figure F d objects) os)) 300
+    conic_claim line os s rows degree sound tied parts six rank many large =
+        let all = parts.all in
+        let count = parts.count in
+        let rows_are = parts.rows_are in
+        let degree_is = parts.degree_is in
+        let steps = steps_alike 1 all parts.steps in
+        let r = objects_lowered line os s in
+        let xs = map (object_figure F d objects) os in
+        let made_all = makes_objects F d used made objects fs ms low line os s all sound tied parts.measured (omega arith)
+        (omega arith) in
+        let figures_many : length xs ≡ 6 = length-map os (object_figure F d objects) ∙ six in
+        let whole = conic_concludes F d used line r.0 fs ms made_all.sound rank r.1 all xs made_all.each
+        (same_length r.0.instrs r.1 all xs made_all.each ∙ count ∙ six) (count ∙ six) figures_many parts.steps (omega arith)
+        (omega arith) in
+        record {
+          ended = whole.ended;
+          keeps = keeps_on s r.0 _ made_all.keeps whole.keeps;
+          few = let f = made_all.few in let g = whole.few in omega arith;
+        }
+
+    -- a claim
     pub concludes_claim : 2 ≤ d → (line : ℕ) (claim : Claim) (s : Lowered) (m : Measure) → IsSound F d used s fs ms
         → AreTied F d used s.instrs s.numbers made objects → IsClaim claim → claim_fits d claim ≡ true
-        → IsTrue (is_built_claim claim) → claim_measure d made claim ≡ Some m → m.rows ≤ 64 → m.degree ≤ 1000
+        → claim_measure d made claim ≡ Some m → m.rows ≤ 64 → m.degree ≤ 1000
         → Concludes F d used s fs ms (claim_lowered line claim s).0 (claim_figure F d objects claim) 300
     unfolding claim_measure claim_lowered
-    concludes_claim least line (Claim.Collinear args) s m sound tied formed fits built e rows degree =
+    concludes_claim least line (Claim.Collinear args) s m sound tied formed fits e rows degree =
         let sum = some_then (total d made 1 args) _ m e in
         let same = some_same _ m sum.1.1 in
         let rows_same : sum.0.rows + 1 ≡ m.rows = ap (λ (k : Measure). k.rows) same in
@@ -224,7 +251,7 @@ module _ (F : Frame) (d used : ℕ) where
         let long = formed.0 in
         alike_claim line 1 args s sum.0.rows sum.0.degree sound tied (total_parts d made 1 args sum.0 sum.1.0) (omega arith)
         (omega arith) (omega arith) (omega arith) (omega arith)
-    concludes_claim least line (Claim.Concurrent args) s m sound tied formed fits built e rows degree =
+    concludes_claim least line (Claim.Concurrent args) s m sound tied formed fits e rows degree =
         let sum = some_then (total d made (d - 1) args) _ m e in
         let same = some_same _ m sum.1.1 in
         let rows_same : sum.0.rows + (length args - 1) ≡ m.rows = ap (λ (k : Measure). k.rows) same in
@@ -236,7 +263,7 @@ module _ (F : Frame) (d used : ℕ) where
         let degree_is = parts.degree_is in
         meets_claim line args s parts.all sound tied parts.measured (omega arith) (omega arith)
         (planes_of d (d - 1) parts.all (omega arith) parts.steps) (omega arith) (omega arith)
-    concludes_claim least line (Claim.Coplanar args) s m sound tied formed fits built e rows degree =
+    concludes_claim least line (Claim.Coplanar args) s m sound tied formed fits e rows degree =
         let sum = some_then (total d made 1 args) _ m e in
         let same = some_same _ m sum.1.1 in
         let rows_same : sum.0.rows + 1 ≡ m.rows = ap (λ (k : Measure). k.rows) same in
@@ -245,7 +272,7 @@ module _ (F : Frame) (d used : ℕ) where
         let long = formed.0 in
         alike_claim line 1 args s sum.0.rows sum.0.degree sound tied (total_parts d made 1 args sum.0 sum.1.0) (omega arith)
         (omega arith) (omega arith) (omega arith) (omega arith)
-    concludes_claim least line (Claim.Meeting args) s m sound tied formed fits built e rows degree =
+    concludes_claim least line (Claim.Meeting args) s m sound tied formed fits e rows degree =
         let sum = some_then (total d made 2 args) _ m e in
         let same = some_same _ m sum.1.1 in
         let rows_same : sum.0.rows + 1 ≡ m.rows = ap (λ (k : Measure). k.rows) same in
@@ -254,7 +281,7 @@ module _ (F : Frame) (d used : ℕ) where
         let long = formed.0 in
         alike_claim line 2 args s sum.0.rows sum.0.degree sound tied (total_parts d made 2 args sum.0 sum.1.0) (omega arith)
         (omega arith) (omega arith) (omega arith) (omega arith)
-    concludes_claim least line (Claim.Incident args) s m sound tied formed fits built e rows degree =
+    concludes_claim least line (Claim.Incident args) s m sound tied formed fits e rows degree =
         let sum = some_then (point_and_hyperplane d made args) _ m e in
         let same = some_same _ m sum.1.1 in
         let rows_same : sum.0.rows + 1 ≡ m.rows = ap (λ (k : Measure). k.rows) same in
@@ -265,4 +292,12 @@ module _ (F : Frame) (d used : ℕ) where
         let degree_is = parts.degree_is in
         joins_claim line args s parts.all sound tied parts.measured (omega arith) (omega arith) parts.steps (omega arith)
         (omega arith)
-    concludes_claim least line (Claim.Conic args) s m sound tied formed fits built e rows degree = absurd cc
+    concludes_claim least line (Claim.Conic args) s m sound tied formed fits e rows degree =
+        let sum = some_then (total d made 1 args) _ m e in
+        let same = some_same _ m sum.1.1 in
+        let rows_same : 2 * sum.0.rows + 4 ≡ m.rows = ap (λ (k : Measure). k.rows) same in
+        let degree_same : 2 * sum.0.degree ≡ m.degree = ap (λ (k : Measure). k.degree) same in
+        let rank : d ≡ 3 = eqb-true d 3 fits in
+        let six : length args ≡ 6 = formed.0 in
+        conic_claim line args s sum.0.rows sum.0.degree sound tied (total_parts d made 1 args sum.0 sum.1.0) six rank
+        (omega arith) (omega arith)

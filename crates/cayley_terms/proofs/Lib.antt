@@ -4,10 +4,10 @@ pub mod ObjectSteps
 pub mod StatementSteps
 pub mod PascalSteps
 pub mod Params
-pub mod BuiltLaws
 pub mod Made
 pub mod Inner
 pub mod Measured
+pub mod SixPoints
 pub mod Sound
 pub mod Objects
 pub mod Chains
@@ -19,3 +19,4 @@ pub mod Whole
 pub mod ProgramLaws
 pub mod StepLists
 pub mod Places
+pub mod Images

@@ -138,7 +138,9 @@ module _ (line : ℕ) (five : List ℕ) (q : ℕ) (s : Lowered) (count : length 
 
 -- ---- behind six objects
 
-as_many : (line : ℕ) (os : List Object) (s : Lowered) → length (objects_lowered line os s).1 ≡ length os
+-- each object has its number
+
+pub as_many : (line : ℕ) (os : List Object) (s : Lowered) → length (objects_lowered line os s).1 ≡ length os
 unfolding objects_lowered
 as_many line [] s = refl
 as_many line (o ∷ os) s = let rest = as_many line os (object_lowered line o s).0 in omega arith
@@ -181,5 +183,5 @@ module _ (params : List (List ℕ)) (line : ℕ) (r : Recipe) (os : List Object)
 -- the answer is that of the whole
 pub pascal_done : (result : Result Instr NoMemory) (after : Lowered) (last whole : Lowered × Instr)
     → IfOk result (λ i. (after, i) ≡ last) → last ≡ whole → IfOk result (λ i. (after, i) ≡ whole)
-pascal_done (Ok i) after last whole is_last same = is_last ∙ same
-pascal_done (Err e) after last whole is_last same = tt
+pascal_done (Ok i) _ _ _ is_last same = is_last ∙ same
+pascal_done (Err e) _ _ _ _ _ = tt

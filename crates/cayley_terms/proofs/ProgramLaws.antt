@@ -6,7 +6,9 @@ use Rattle.std.proofs.lemmas.List.Sums.{sum_by-cons}
 use Rattle.construction_reader.specs.declared.construction.Construction.{Construction}
 use Rattle.construction_reader.specs.Seen.{account}
 use Rattle.construction_reader.specs.Said.{Sentence, Account, sentences_of}
-use Rattle.construction_reader.specs.Grammar.{free_names, definitions, params_of, IsAccount}
+use Rattle.construction_reader.specs.Rules.{version_1}
+use Rattle.construction_reader.specs.Grammar.{free_names, definitions, conclusions, params_of, IsAccount}
+use Rattle.construction_reader.proofs.ConclusionLaws.{ends_once}
 use Rattle.step_types.specs.declared.measure.Measure.{Measure}
 use Rattle.step_types.specs.Known.{nothing, found}
 use Rattle.step_types.specs.declared.names.Names.{Names}
@@ -21,7 +23,6 @@ use Rattle.cayley_terms.specs.Instrs.{made_behind, figures, no_measure, measures
 use Rattle.cayley_terms.specs.Programs.{IsProgram, EndsInOne}
 use Rattle.cayley_terms.specs.Straight.{Lowered, row_lowered, lowered}
 use Rattle.cayley_terms.specs.Straight as straight
-use Rattle.cayley_terms.specs.Built.{IsBuilt}
 use Rattle.cayley_terms.specs.Room.{Fits}
 use Rattle.cayley_terms.specs.Kept.{ends, defined_in, definition_measures, IsNamed}
 use Rattle.cayley_terms.proofs.Sound.{IsGivenBelow}
@@ -33,119 +34,120 @@ use Rattle.cayley_terms.proofs.Whole.{points_at_end, defined_at_end, IsWhole, wh
 abbrev pub params_in : Account → List (List ℕ)
 params_in c = params_of [] (sentences_of c.rows)
 
-module _ (F : Frame) (c : Account) (good : IsGood c) (built : IsBuilt c) (given : IsAccount c.rank (sentences_of c.rows))
-  where
-    at_head : Matches F c.rank (length (params_in c)) straight.nothing (empty_scene F) [] []
-    unfolding made_behind
-    at_head =
-        record {
-          all = [];
-          sound = record { inner = tt; lines = refl; marks = refl; figures = refl; measures = refl; free = tt };
-          tied = record { ties = []; numbered = refl; measured = refl; meant = refl; each = tt };
-          points = refl;
-          count = refl;
-          counted = refl;
-          each = tt;
-          few = omega arith;
-          distinct = tt;
-        }
+module _ (F : Frame) (c : Account) (good : IsGood c) (given : IsAccount c.rank (sentences_of c.rows))
+    (one : sum_by conclusions (sentences_of c.rows) ≡ 1) where
+  at_head : Matches F c.rank (length (params_in c)) straight.nothing (empty_scene F) [] []
+  unfolding made_behind
+  at_head =
+      record {
+        all = [];
+        sound = record { inner = tt; lines = refl; marks = refl; figures = refl; measures = refl; free = tt };
+        tied = record { ties = []; numbered = refl; measured = refl; meant = refl; each = tt };
+        points = refl;
+        count = refl;
+        counted = refl;
+        each = tt;
+        few = omega arith;
+        distinct = tt;
+      }
 
-    -- the straight list is the whole construction
-    pub whole : IsWhole F c.rank (params_in c) (lowered c) (scene_of F c) (objects_of c)
-        (flat_map defined_in (sentences_of c.rows))
-    unfolding lowered scene_of
-    whole =
-        let ranked = given.ranked in
-        let points = given.few_free in
-        subst (λ r. IsWhole F c.rank (params_in c) (lowered c) (scene_of F c) (objects_in r)
-        (flat_map defined_in (sentences_of c.rows))) (sym good.1)
-        (whole_rows F c.rank (params_in c) (omega arith) ranked.1 given.few_params c.rows straight.nothing (empty_scene F) nothing good.0 []
-        at_head good.1 given.each (all_say [] (sentences_of c.rows)) given.ends built (omega (arith, points)))
+  -- the straight list is the whole construction
+  pub whole : IsWhole F c.rank (params_in c) (lowered c) (scene_of F c) (objects_of c)
+      (flat_map defined_in (sentences_of c.rows))
+  unfolding lowered scene_of
+  whole =
+      let ranked = given.ranked in
+      let points = given.few_free in
+      subst (λ r. IsWhole F c.rank (params_in c) (lowered c) (scene_of F c) (objects_in r)
+      (flat_map defined_in (sentences_of c.rows))) (sym good.1)
+      (whole_rows F c.rank (params_in c) (omega arith) ranked.1 given.few_params c.rows straight.nothing (empty_scene F) nothing good.0 []
+      at_head good.1 given.each (all_say [] (sentences_of c.rows)) (ends_once version_1 (sentences_of c.rows) given.ends one)
+      (omega (arith, points)))
 
-    -- as many points and definitions as the text has
-    pub points_are : (lowered c).points ≡ sum_by free_names (sentences_of c.rows)
-    unfolding scene_of
-    points_are =
-        let e = points_at_end F c.rank (params_in c) (sentences_of c.rows) (empty_scene F) in
-        let p = whole.points in
-        omega (arith, e, p)
+  -- as many points and definitions as the text has
+  pub points_are : (lowered c).points ≡ sum_by free_names (sentences_of c.rows)
+  unfolding scene_of
+  points_are =
+      let e = points_at_end F c.rank (params_in c) (sentences_of c.rows) (empty_scene F) in
+      let p = whole.points in
+      omega (arith, e, p)
 
-    pub definitions_are : (lowered c).definitions ≡ sum_by definitions (sentences_of c.rows)
-    unfolding scene_of
-    definitions_are =
-        let e = defined_at_end F c.rank (params_in c) (sentences_of c.rows) (empty_scene F) in
-        let p = whole.count in
-        omega (arith, e, p)
+  pub definitions_are : (lowered c).definitions ≡ sum_by definitions (sentences_of c.rows)
+  unfolding scene_of
+  definitions_are =
+      let e = defined_at_end F c.rank (params_in c) (sentences_of c.rows) (empty_scene F) in
+      let p = whole.count in
+      omega (arith, e, p)
 
-    -- there is room for it
-    pub fits_whole : Fits (lowered c)
-    fits_whole =
-        let points = points_are in
-        let definitions = definitions_are in
-        let few_free = given.few_free in
-        let few_definitions = given.few_definitions in
-        let few = whole.few in
-        record {
-          instrs = let small : length (lowered c).instrs ≤ 1040500 = omega (arith, points, definitions, few_free, few_definitions, few) in omega arith;
-          points = omega (arith, points, few_free);
-          definitions = omega (arith, definitions, few_definitions);
-          names = whole.distinct;
-        }
+  -- there is room for it
+  pub fits_whole : Fits (lowered c)
+  fits_whole =
+      let points = points_are in
+      let definitions = definitions_are in
+      let few_free = given.few_free in
+      let few_definitions = given.few_definitions in
+      let few = whole.few in
+      record {
+        instrs = let small : length (lowered c).instrs ≤ 1040500 = omega (arith, points, definitions, few_free, few_definitions, few) in omega arith;
+        points = omega (arith, points, few_free);
+        definitions = omega (arith, definitions, few_definitions);
+        names = whole.distinct;
+      }
 
-    -- the measures of the definitions are those of the step rules
-    found_map : (made : List (List ℕ × Measure)) (names : List (List ℕ)) (ms : List Measure) → AreFound made names ms
-        → ms ≡ map (λ name. unwrap_or (found name made) no_measure) names
-    found_map made [] [] each = refl
-    found_map made [] (m ∷ ms) each = absurd each
-    found_map made (name ∷ names) [] each = absurd each
-    found_map made (name ∷ names) (m ∷ ms) each =
-        ap (λ (o : Option Measure). unwrap_or o no_measure ∷ ms) (sym each.0)
-        ∙ ap (λ rest. unwrap_or (found name made) no_measure ∷ rest) (found_map made names ms each.1)
+  -- the measures of the definitions are those of the step rules
+  found_map : (made : List (List ℕ × Measure)) (names : List (List ℕ)) (ms : List Measure) → AreFound made names ms
+      → ms ≡ map (λ name. unwrap_or (found name made) no_measure) names
+  found_map made [] [] each = refl
+  found_map made [] (m ∷ ms) each = absurd each
+  found_map made (name ∷ names) [] each = absurd each
+  found_map made (name ∷ names) (m ∷ ms) each =
+      ap (λ (o : Option Measure). unwrap_or o no_measure ∷ ms) (sym each.0)
+      ∙ ap (λ rest. unwrap_or (found name made) no_measure ∷ rest) (found_map made names ms each.1)
 
-    pub measures_kept : ends (lowered c).defined (measures c.rank (lowered c).instrs)
-        ≡ enumerate_from 0 (definition_measures c)
-    measures_kept =
-        whole.ended.measured ∙ ap (enumerate_from 0) (found_map (objects_of c) _ whole.all whole.each)
+  pub measures_kept : ends (lowered c).defined (measures c.rank (lowered c).instrs)
+      ≡ enumerate_from 0 (definition_measures c)
+  measures_kept =
+      whole.ended.measured ∙ ap (enumerate_from 0) (found_map (objects_of c) _ whole.all whole.each)
 
-    pub definitions_kept : ends (lowered c).defined (figures F c.rank (lowered c).instrs)
-        ≡ enumerate_from 0 (scene_of F c).defined
-    definitions_kept = whole.ended.meant
+  pub definitions_kept : ends (lowered c).defined (figures F c.rank (lowered c).instrs)
+      ≡ enumerate_from 0 (scene_of F c).defined
+  definitions_kept = whole.ended.meant
 
-    pub conclusion_kept : scalar F.ring c.rank
-        (get_or (figures F c.rank (lowered c).instrs) (length (lowered c).instrs - 1) (no_figure F.ring))
-        ≡ scalar F.ring c.rank (scene_of F c).concluded
-    conclusion_kept = ap (scalar F.ring c.rank) whole.ended.last
+  pub conclusion_kept : scalar F.ring c.rank
+      (get_or (figures F c.rank (lowered c).instrs) (length (lowered c).instrs - 1) (no_figure F.ring))
+      ≡ scalar F.ring c.rank (scene_of F c).concluded
+  conclusion_kept = ap (scalar F.ring c.rank) whole.ended.last
 
-    -- points and parameters are numbers of names
-    names_count : (sentences : List Sentence) → length (flat_map free_in sentences) ≡ sum_by free_names sentences
-    names_count [] = refl
-    names_count (Sentence.Free names ∷ sentences) =
-        omega (
-          arith,
-          names_count sentences,
-          sum_by-cons free_names (Sentence.Free names) sentences,
-          length-append names (flat_map free_in sentences),
-        )
-    names_count (Sentence.Define kind name recipe ∷ sentences) =
-        omega (arith, names_count sentences, sum_by-cons free_names (Sentence.Define kind name recipe) sentences)
-    names_count (Sentence.Conclude claim ∷ sentences) =
-        omega (arith, names_count sentences, sum_by-cons free_names (Sentence.Conclude claim) sentences)
+  -- points and parameters are numbers of names
+  names_count : (sentences : List Sentence) → length (flat_map free_in sentences) ≡ sum_by free_names sentences
+  names_count [] = refl
+  names_count (Sentence.Free names ∷ sentences) =
+      omega (
+        arith,
+        names_count sentences,
+        sum_by-cons free_names (Sentence.Free names) sentences,
+        length-append names (flat_map free_in sentences),
+      )
+  names_count (Sentence.Define kind name recipe ∷ sentences) =
+      omega (arith, names_count sentences, sum_by-cons free_names (Sentence.Define kind name recipe) sentences)
+  names_count (Sentence.Conclude claim ∷ sentences) =
+      omega (arith, names_count sentences, sum_by-cons free_names (Sentence.Conclude claim) sentences)
 
-    given_named : (n : ℕ) (names : Names) (instrs : List Instr) → n ≡ length names.free
-        → AllByRecursion (IsGivenBelow (length names.params) n) instrs → AllByRecursion (IsNamed names) instrs
-    given_named n names [] same all = tt
-    given_named n names (i ∷ instrs) same all = (one i all.0, given_named n names instrs same all.1) where
-      one : (i : Instr) → IsGivenBelow (length names.params) n i → IsNamed names i
-      one (instr.Free k) below = omega arith
-      one (instr.Join a b) below = tt
-      one (instr.Meet a b) below = tt
-      one (instr.On a b s t) below = below
-      one (instr.Conic p1 p2 p3 p4 p5 p6) below = tt
+  given_named : (n : ℕ) (names : Names) (instrs : List Instr) → n ≡ length names.free
+      → AllByRecursion (IsGivenBelow (length names.params) n) instrs → AllByRecursion (IsNamed names) instrs
+  given_named n names [] same all = tt
+  given_named n names (i ∷ instrs) same all = (named i all.0, given_named n names instrs same all.1) where
+    named : (i : Instr) → IsGivenBelow (length names.params) n i → IsNamed names i
+    named (instr.Free k) below = omega arith
+    named (instr.Join a b) below = tt
+    named (instr.Meet a b) below = tt
+    named (instr.On a b s t) below = below
+    named (instr.Conic p1 p2 p3 p4 p5 p6) below = tt
 
-    pub names_kept : AllByRecursion (IsNamed (names_of c)) (lowered c).instrs
-    names_kept =
-        given_named (lowered c).points (names_of c) (lowered c).instrs
-        (points_are ∙ sym (names_count (sentences_of c.rows))) whole.ended.free
+  pub names_kept : AllByRecursion (IsNamed (names_of c)) (lowered c).instrs
+  names_kept =
+      given_named (lowered c).points (names_of c) (lowered c).instrs
+      (points_are ∙ sym (names_count (sentences_of c.rows))) whole.ended.free
 
 -- from the head of the text on
 pub lowered_from : (c : Account) (start : Lowered) → start ≡ straight.nothing
@@ -156,16 +158,17 @@ lowered_from c start at_start = ap (λ (s : Lowered). fold (row_lowered (params_
 -- ---- the program
 
 -- the rule of a program, of the straight list
-pub program_rule : (c : Account) (l : Lowered) (steps : List ℕ) → IsGood c → IsBuilt c
-    → IsAccount c.rank (sentences_of c.rows) → l ≡ lowered c → steps ≡ map (λ m. m.step) (measures c.rank l.instrs)
+pub program_rule : (c : Account) (l : Lowered) (steps : List ℕ) → IsGood c
+    → IsAccount c.rank (sentences_of c.rows) → sum_by conclusions (sentences_of c.rows) ≡ 1 → l ≡ lowered c
+    → steps ≡ map (λ m. m.step) (measures c.rank l.instrs)
     → IsProgram c.rank l.instrs steps l.lines l.defined
-program_rule c l steps good built given same stepped =
-    let all = whole Variables c good built given in
+program_rule c l steps good given one same stepped =
+    let all = whole Variables c good given one in
     let rule : IsProgram c.rank (lowered c).instrs (map (λ m. m.step) (measures c.rank (lowered c).instrs))
     (lowered c).lines (lowered c).defined =
     record {
       rank = (let ranked = given.ranked in omega arith, given.ranked.1);
-      few = (fits_whole Variables c good built given).instrs;
+      few = (fits_whole Variables c good given one).instrs;
       each = all.ended.each;
       stepped = refl;
       lined = all.ended.lines;
@@ -195,20 +198,20 @@ put_of now read l view instrs lines defined same made seen instrs_are lines_are 
     }
 
 module _ (c : Account) (d : ℕ) (instrs : List Instr) (lines : List ℕ) (defined : List (Option ℕ))
-    (put : IsPut c d instrs lines defined) (good : IsGood c) (built : IsBuilt c)
-    (given : IsAccount c.rank (sentences_of c.rows)) where
+    (put : IsPut c d instrs lines defined) (good : IsGood c)
+    (given : IsAccount c.rank (sentences_of c.rows)) (one : sum_by conclusions (sentences_of c.rows) ≡ 1) where
   pub put_definitions : ends defined (figures Variables d instrs) ≡ enumerate_from 0 (definitions_of Variables c)
-  put_definitions = rw (put.rank, put.instrs_are, put.defined_are) (definitions_kept Variables c good built given)
+  put_definitions = rw (put.rank, put.instrs_are, put.defined_are) (definitions_kept Variables c good given one)
 
   pub put_measures : ends defined (measures d instrs) ≡ enumerate_from 0 (definition_measures c)
-  put_measures = rw (put.rank, put.instrs_are, put.defined_are) (measures_kept Variables c good built given)
+  put_measures = rw (put.rank, put.instrs_are, put.defined_are) (measures_kept Variables c good given one)
 
   pub put_conclusion : scalar Polynomials d
       (get_or (figures Variables d instrs) (length instrs - 1) (no_figure Polynomials)) ≡ conclusion_polynomial c
-  put_conclusion = rw (put.rank, put.instrs_are) (conclusion_kept Variables c good built given)
+  put_conclusion = rw (put.rank, put.instrs_are) (conclusion_kept Variables c good given one)
 
   pub put_names : AllByRecursion (IsNamed (names_of c)) instrs
-  put_names = rw (put.instrs_are) (names_kept Variables c good built given)
+  put_names = rw (put.instrs_are) (names_kept Variables c good given one)
 
   pub put_rule : (steps : List ℕ) → steps ≡ map (λ m. m.step) (measures d instrs)
       → IsProgram d instrs steps lines defined
@@ -216,7 +219,7 @@ module _ (c : Account) (d : ℕ) (instrs : List Instr) (lines : List ℕ) (defin
       let stepped_so : steps ≡ map (λ m. m.step) (measures c.rank (lowered c).instrs) =
       stepped ∙ rw (put.rank, put.instrs_are) refl in
       rw (put.rank, put.instrs_are, put.lines_are, put.defined_are)
-      (program_rule c (lowered c) steps good built given refl stepped_so)
+      (program_rule c (lowered c) steps good given one refl stepped_so)
 
   pub put_each : EndsInOne d [] instrs
-  put_each = rw (put.rank, put.instrs_are) (whole Variables c good built given).ended.each
+  put_each = rw (put.rank, put.instrs_are) (whole Variables c good given one).ended.each

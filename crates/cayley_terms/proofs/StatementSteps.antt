@@ -1,18 +1,15 @@
 -- What the functions that lower statements need room for, and that they do what is lowered.
 use Rattle.std.proofs.Common.{◌≡◌, ℕ, zero, suc, ◌+◌, ◌<◌, ◌≤◌, false, List, [], ◌∷◌, length, map, drop, get_or, fold, None, Some, sym, ap, ◌∙◌, subst, refl, arith, add-one}
-use Rattle.std.specs.Prelude.{IsTrue}
-use Rattle.std.specs.List.{AllByRecursion, list_all}
+use Rattle.std.specs.List.{AllByRecursion}
 use Rattle.construction_reader.specs.declared.types.Statement.{Statement}
 use Rattle.construction_reader.specs.Said.{Object, Recipe, row, sentences_of}
 use Rattle.construction_reader.specs.Grammar.{IsSentence}
 use Rattle.cayley_terms.specs.declared.instr.Instr.{Instr}
 use Rattle.cayley_terms.specs.declared.instr.Instr.TheVariants as instr
 use Rattle.cayley_terms.specs.Named.{place_of, has_name}
-use Rattle.cayley_terms.specs.Built.{is_built_sentence, is_built}
 use Rattle.cayley_terms.specs.Straight.{Lowered, pushed, object_lowered, objects_lowered, recipe_lowered, chain_lowered, from_left_lowered, point_lowered, ended, row_lowered}
 use Rattle.cayley_terms.specs.Room.{Fits}
 use Rattle.cayley_terms.proofs.Names.{distinct_new}
-use Rattle.cayley_terms.proofs.Measured.{both_true}
 use Rattle.cayley_terms.proofs.Growth.{grows_chain, grows_from_left, grows_points, grows_named, grows_ended, grows_rows, fits_before}
 use Rattle.cayley_terms.proofs.ObjectSteps.{pair_of, first_of_fits, second_of_fits, pair_of-is}
 
@@ -190,17 +187,7 @@ rows_end params [] (suc i) l whole over e = e
 rows_end params (s ∷ items) zero l whole over e = absurd (omega arith)
 rows_end params (s ∷ items) (suc i) l whole over e = rows_end params items i l whole (omega arith) e
 
--- each of the statements has a form that is lowered
-pub built_at : (items : List Statement) (i : ℕ) (s : Statement) → i < length items → s ≡ get_or items i s
-    → IsTrue (list_all is_built (map row items)) → IsTrue (is_built_sentence (row s).sentence)
-built_at [] i s less at all = absurd (omega arith)
-built_at (first ∷ items) zero s less at all =
-    subst (λ x. IsTrue (is_built_sentence (row x).sentence)) (sym at)
-    (both_true (is_built (row first)) (list_all is_built (map row items)) all).0
-built_at (first ∷ items) (suc i) s less at all =
-    built_at items i s (omega arith) at (both_true (is_built (row first)) (list_all is_built (map row items)) all).1
-
--- and is one of the grammar
+-- each of the statements is one of the grammar
 pub formed_at : (items : List Statement) (i : ℕ) (s : Statement) → i < length items → s ≡ get_or items i s
     → AllByRecursion IsSentence (sentences_of (map row items)) → IsSentence (row s).sentence
 formed_at [] i s less at all = absurd (omega arith)

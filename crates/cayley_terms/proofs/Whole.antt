@@ -1,7 +1,7 @@
 -- The straight list of a whole construction.
 use Rattle.std.proofs.Common.{◌≡◌, ℕ, ◌+◌, ◌*◌, ◌≤◌, Bool, true, false, not, cond, List, [], ◌∷◌, ◌++◌, length, fold, Some, Result, Ok, Err, sym, ap, ◌∙◌, subst, refl, arith, append_assoc, append-nil, length-append}
-use Rattle.std.specs.Prelude.{IsTrue, sum_by}
-use Rattle.std.specs.List.{AllByRecursion, enumerate_from, flat_map, list_all}
+use Rattle.std.specs.Prelude.{sum_by}
+use Rattle.std.specs.List.{AllByRecursion, enumerate_from, flat_map}
 use Rattle.std.proofs.lemmas.List.Sums.{sum_by-cons}
 use Rattle.std.proofs.lemmas.Slice.Eq.{bytes_eq-Decides}
 use Rattle.construction_reader.specs.declared.types.ObjectKind.{ObjectKind}
@@ -20,10 +20,9 @@ use Rattle.cayley_terms.specs.Named.{AreDistinct}
 use Rattle.cayley_terms.specs.Figures.{Figure}
 use Rattle.cayley_terms.specs.Meaning.{Frame, Scene, recipe_figure, with_point, scene_behind}
 use Rattle.cayley_terms.specs.Straight.{Lowered, point_lowered, sentence_lowered, row_lowered}
-use Rattle.cayley_terms.specs.Built.{is_built, is_built_sentence}
 use Rattle.cayley_terms.specs.Kept.{defined_in}
 use Rattle.cayley_terms.proofs.Params.{SaysParams}
-use Rattle.cayley_terms.proofs.Measured.{some_then, both_true, of_step_is}
+use Rattle.cayley_terms.proofs.Measured.{some_then, of_step_is}
 use Rattle.cayley_terms.proofs.Chains.{IsEnded}
 use Rattle.cayley_terms.proofs.Claims.{concludes_claim}
 use Rattle.cayley_terms.proofs.Rows.{AreFound, all_found_more, Matches, match_points}
@@ -146,15 +145,15 @@ module _ (F : Frame) (d : ℕ) (params : List (List ℕ)) where
 
   last_row : 2 ≤ d → d ≤ 4 → (line : ℕ) (x : Sentence) (s : Lowered) (scene : Scene F) (known : Known)
       (defs : List (List ℕ)) (m : Measure) → Matches F d (length params) s scene known.made defs → is_conclusion x ≡ true
-      → IsSentence x → IsTrue (is_built_sentence x) → measured d known x ≡ Ok m
+      → IsSentence x → measured d known x ≡ Ok m
       → IsWhole (sentence_lowered params line s x) (scene_behind F d params scene x) (known_with known x m).made
       (defs ++ defined_in x)
-  last_row least low line (Sentence.Free names) s scene known defs m matches last formed built e = absurd cc
-  last_row least low line (Sentence.Define kind name recipe) s scene known defs m matches last formed built e = absurd cc
-  last_row least low line (Sentence.Conclude claim) s scene known defs m matches last formed built e =
+  last_row least low line (Sentence.Free names) s scene known defs m matches last formed e = absurd cc
+  last_row least low line (Sentence.Define kind name recipe) s scene known defs m matches last formed e = absurd cc
+  last_row least low line (Sentence.Conclude claim) s scene known defs m matches last formed e =
       let so = measured_so d known (Sentence.Conclude claim) m e in
       let done = concludes_claim F d (length params) known.made scene.objects _ _ low least line claim s m matches.sound matches.tied
-      formed so.fits built (conclusion_measure d known.made claim m so.measure) so.rows so.degree in
+      formed so.fits (conclusion_measure d known.made claim m so.measure) so.rows so.degree in
       let keeps = done.keeps in
       record {
         all = matches.all;
@@ -173,17 +172,16 @@ module _ (F : Frame) (d : ℕ) (params : List (List ℕ)) where
   pub whole_rows : 2 ≤ d → d ≤ 4 → length params ≤ 64 → (rows : List Row) (s : Lowered) (scene : Scene F) (known last : Known)
       (defs : List (List ℕ)) → Matches F d (length params) s scene known.made defs → outcome d known rows ≡ Ok last
       → AllByRecursion IsSentence (sentences_of rows) → AllByRecursion (SaysParams params) (sentences_of rows) → EndsOnce (sentences_of rows)
-      → IsTrue (list_all is_built rows) → scene.points + sum_by free_names (sentences_of rows) ≤ 200
+      → scene.points + sum_by free_names (sentences_of rows) ≤ 200
       → IsWhole (fold (row_lowered params) s rows) (fold (scene_behind F d params) scene (sentences_of rows)) last.made
       (defs ++ flat_map defined_in (sentences_of rows))
   unfolding outcome
-  whole_rows least low few_params [] s scene known last defs matches e formed says ends built room = absurd ends
-  whole_rows least low few_params (row ∷ []) s scene known last defs matches e formed says ends built room =
+  whole_rows least low few_params [] s scene known last defs matches e formed says ends room = absurd ends
+  whole_rows least low few_params (row ∷ []) s scene known last defs matches e formed says ends room =
       let first = first_taken d known last row [] e in
       let measure = measure_behind known first.0 row (measured d known row.sentence) first.1.0 in
       let end : first.0 ≡ last = let o = first.1.1 in cc in
-      let fine = both_true (is_built row) true built in
-      let done = last_row least low row.line row.sentence s scene known defs measure.0 matches ends formed.0 fine.0
+      let done = last_row least low row.line row.sentence s scene known defs measure.0 matches ends formed.0
       measure.1.0 in
       let made : (known_with known row.sentence measure.0).made ≡ last.made =
       ap (λ (k : Known). k.made) (sym measure.1.1 ∙ end) in
@@ -191,10 +189,9 @@ module _ (F : Frame) (d : ℕ) (params : List (List ℕ)) where
       last.made (defs ++ ds)) (sym (append-nil (defined_in row.sentence)))
       (subst (λ (k : List (List ℕ × Measure)). IsWhole (row_lowered params s row)
       (scene_behind F d params scene row.sentence) k (defs ++ defined_in row.sentence)) made done)
-  whole_rows least low few_params (row ∷ next ∷ rows) s scene known last defs matches e formed says ends built room =
+  whole_rows least low few_params (row ∷ next ∷ rows) s scene known last defs matches e formed says ends room =
       let first = first_taken d known last row (next ∷ rows) e in
       let measure = measure_behind known first.0 row (measured d known row.sentence) first.1.0 in
-      let fine = both_true (is_built row) (list_all is_built (next ∷ rows)) built in
       let sum = sum_by-cons free_names row.sentence (sentences_of (next ∷ rows)) in
       let here = matches.points in
       let behind = points_behind row.sentence scene in
@@ -204,7 +201,7 @@ module _ (F : Frame) (d : ℕ) (params : List (List ℕ)) where
       (scene_behind F d params scene row.sentence) k.made (defs ++ defined_in row.sentence)) (sym measure.1.1) one in
       let rest = whole_rows least low few_params (next ∷ rows) (row_lowered params s row)
       (scene_behind F d params scene row.sentence) first.0 last (defs ++ defined_in row.sentence) there first.1.1 formed.1
-      says.1 ends.1 fine.1 (omega (arith, sum, behind, room)) in
+      says.1 ends.1 (omega (arith, sum, behind, room)) in
       subst (λ (ds : List (List ℕ)). IsWhole (fold (row_lowered params) s (row ∷ next ∷ rows))
       (fold (scene_behind F d params) scene (sentences_of (row ∷ next ∷ rows))) last.made ds)
       (append_assoc defs (defined_in row.sentence) (flat_map defined_in (sentences_of (next ∷ rows)))) rest

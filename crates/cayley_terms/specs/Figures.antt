@@ -1,9 +1,9 @@
--- Objects of the Grassmann-Cayley algebra with their steps (Sturmfels, Algorithms in Invariant Theory, section 3.3), over
--- the operations of any ring.
+-- Objects of the Grassmann-Cayley algebra with their steps (Sturmfels, Algorithms in Invariant Theory, section 3.3),
+-- over the operations of any ring.
 use Rattle.std.specs.Prelude.{ℕ, ◌+◌, ◌-◌, ◌==◌, if◌then◌else◌, List, [], ◌∷◌, fold}
 use Rattle.coordinate_model.specs.Ring.{Ops}
 use Rattle.coordinate_model.specs.Sequences.{columns}
-use Rattle.coordinate_model.specs.Brackets.{Point, Coords, of_point, join, meet, on, six_point}
+use Rattle.coordinate_model.specs.Brackets.{Point, Coords, of_point, join, meet, on, six_point, join_bracket}
 
 module _ (R : Ops) where
   -- an object: its step and its coordinates
@@ -47,14 +47,15 @@ module _ (R : Ops) where
   from_left f [] = no_figure
   from_left f (a ∷ others) = fold f a others
 
-  -- the bracket of three points of rank 3: the coordinate of their join at all columns
-  abbrev pub bracket_of : List Figure → R.carrier
-  bracket_of points = (from_left joined points).coordinates (columns 3)
-
-  -- the six-point polynomial, as an object of step 0
+  -- the six-point polynomial of six points, as an object of step 0
   abbrev pub conic : (p1 p2 p3 p4 p5 p6 : Figure) → Figure
   conic p1 p2 p3 p4 p5 p6 =
-      record { step = 0; coordinates = λ K. six_point R bracket_of p1 p2 p3 p4 p5 p6 }
+      record {
+        step = 0;
+        coordinates =
+            λ K. six_point R (join_bracket R) p1.coordinates p2.coordinates p3.coordinates p4.coordinates p5.coordinates
+            p6.coordinates;
+      }
 
   -- the one coordinate of an object of step 0, at no columns, or of step d, at all columns
   abbrev pub scalar : ℕ → Figure → R.carrier

@@ -1,5 +1,6 @@
 -- What a program keeps of the construction that it was made of.
-use Rattle.std.specs.Prelude.{◌≡◌, ℕ, ◌-◌, ◌<◌, List, [], ◌∷◌, map, length, Option, Some, None, unwrap_or, slice_index_or}
+use Rattle.std.specs.Prelude.{◌≡◌, ℕ, ◌-◌, ◌<◌, List, [], ◌∷◌, map, length, slice_index_or}
+use Rattle.std.specs.Prelude.{Option, Some, None, unwrap_or}
 use Rattle.std.specs.List.{flat_map, enumerate_from, AllByRecursion}
 use Rattle.construction_reader.specs.Said.{Sentence, Account, sentences_of}
 use Rattle.coordinate_model.specs.Polynomial.{Polynomials, Polynomial}

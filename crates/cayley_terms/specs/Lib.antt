@@ -4,7 +4,6 @@ pub mod Meaning
 pub mod Instrs
 pub mod Programs
 pub mod Straight
-pub mod Built
 pub mod Kept
 pub mod Starts
 pub mod Listed
@@ -13,3 +12,4 @@ pub mod Crossings
 pub mod Room
 pub mod Steps
 pub mod ProgramLaws
+pub mod Values

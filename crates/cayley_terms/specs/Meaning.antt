@@ -59,8 +59,9 @@ module _ (F : Frame) where
   conic_figure (p1 ∷ p2 ∷ p3 ∷ p4 ∷ p5 ∷ p6 ∷ []) = conic F.ring p1 p2 p3 p4 p5 p6
   conic_figure others = no_figure F.ring
 
-  -- what a claim says to be zero: the join from the left of points that are on a line or a plane, of two lines that meet
-  -- and of a point on a hyperplane; the meet from the left of hyperplanes through a point; the six-point polynomial
+  -- what a claim says to be zero: the join from the left of points that are on a line or a plane, of two lines that
+  -- meet and of a point on a hyperplane; the meet from the left of hyperplanes through a point; the six-point
+  -- polynomial
   abbrev pub claim_figure : ℕ → List (List ℕ × Figure F.ring) → Claim → Figure F.ring
   claim_figure d objects (Claim.Collinear args) =
       from_left F.ring (joined F.ring) (map (object_figure d objects) args)

@@ -5,7 +5,7 @@ use Rattle.cayley_terms.specs.declared.instr.Instr.{Instr}
 use Rattle.cayley_terms.specs.declared.instr.Instr.TheVariants as instr
 use Rattle.cayley_terms.specs.declared.pair.Pair.{Pair}
 use Rattle.cayley_terms.specs.declared.pair.Pair.TheVariants.{Join, Meet}
-use Rattle.cayley_terms.specs.Straight.{Lowered, objects_lowered, from_left_lowered}
+use Rattle.cayley_terms.specs.Straight.{Lowered, objects_lowered, from_left_lowered, conic_lowered}
 
 -- the join or the meet of these two
 abbrev pub pair_instr : Pair → ℕ → ℕ → Instr
@@ -17,3 +17,9 @@ abbrev pub objects_from_left : Pair → ℕ → List Object → Lowered → Lowe
 objects_from_left pair line objects s =
     let r = objects_lowered line objects s in
     (from_left_lowered (pair_instr pair) line r.1 r.0).0
+
+-- objects, and behind them the six-point polynomial of them
+abbrev pub objects_conic : ℕ → List Object → Lowered → Lowered
+objects_conic line objects s =
+    let r = objects_lowered line objects s in
+    (conic_lowered line r.1 r.0).0

@@ -64,8 +64,8 @@ EndsInOne d before (instr ∷ []) = IsLast d before instr
 EndsInOne d before (instr ∷ next ∷ instrs) =
     IsInner d before instr × EndsInOne d (before ++ instr_measure d before instr ∷ []) (next ∷ instrs)
 
--- a program of rank d: its instructions, their steps, the lines of their statements, and for each that ends a definition
--- the definition's number
+-- a program of rank d: its instructions, their steps, the lines of their statements, and for each that ends a
+-- definition the definition's number
 pub record IsProgram (d : ℕ) (instrs : List Instr) (steps lines : List ℕ) (defined : List (Option ℕ)) : Type 0 where
   pub rank : IsRank d
   pub few : length instrs < 2 ^ 32

@@ -6,9 +6,9 @@ use Rattle.cayley_terms.specs.declared.instr.Instr.{Instr}
 use Rattle.cayley_terms.specs.declared.instr.Instr.TheVariants as instr
 use Rattle.cayley_terms.specs.Named.{named, place_of}
 
--- what has been lowered up to a place of a text: the instructions, the line of each, and for each that ends a definition
--- the definition's number; the numbers of the instructions that ended the named objects; how many free points and how
--- many definitions there are
+-- what has been lowered up to a place of a text: the instructions, the line of each, and for each that ends a
+-- definition the definition's number; the numbers of the instructions that ended the named objects; how many free
+-- points and how many definitions there are
 pub record Lowered : Type 0 where
   pub instrs : List Instr
   pub lines : List ℕ
@@ -136,10 +136,14 @@ ended line name last =
     let r = pushed line (Some last.0.definitions) last.1 last.0 in
     record r.0 { numbers = r.0.numbers ++ (name, r.1) ∷ []; definitions = suc r.0.definitions }
 
+-- one definition more, of this name and by this recipe, where the parameters have these names
+abbrev pub defined_lowered : List (List ℕ) → ℕ → List ℕ → Recipe → Lowered → Lowered
+defined_lowered params line name recipe s = ended line name (recipe_lowered params line recipe s)
+
 -- a sentence on this line, where the parameters have these names
 abbrev pub sentence_lowered : List (List ℕ) → ℕ → Lowered → Sentence → Lowered
 sentence_lowered params line s (Sentence.Free names) = fold (point_lowered line) s names
-sentence_lowered params line s (Sentence.Define kind name recipe) = ended line name (recipe_lowered params line recipe s)
+sentence_lowered params line s (Sentence.Define kind name recipe) = defined_lowered params line name recipe s
 sentence_lowered params line s (Sentence.Conclude claim) = (claim_lowered line claim s).0
 
 -- a statement

@@ -1,7 +1,6 @@
 //! Constructions as straight lists of joins and meets.
 #![tactic(auto)]
 
-mod built;
 mod instr;
 mod items;
 pub mod laws;
@@ -13,11 +12,7 @@ mod program;
 mod steps;
 mod straight;
 
-pub use built::first_unbuilt;
 pub use instr::Instr;
 pub use items::Items;
 pub use program::Program;
 pub use straight::lower;
-
-#[cfg(test)]
-mod tests;

@@ -1,13 +1,14 @@
 //! The straight list so far, and what statements add to it.
 
-ghost use Rattle.std.specs.Prelude.{◌≡◌, ◌≤◌, map, fold, length, IfOk, OnOk, IsTrue, None};
+ghost use Rattle.std.specs.Prelude.{◌≡◌, ◌≤◌, map, fold, length, IfOk, OnOk, None};
 ghost use Rattle.construction_reader.specs.Said.{object, objects, recipe, claim as said_claim, sentence, row};
-ghost use Rattle.construction_reader.specs.Grammar.{IsRecipe, IsSentence};
-ghost use Rattle.cayley_terms.specs.Built.{is_built_claim, is_built_sentence};
+ghost use Rattle.construction_reader.specs.Grammar.{IsRecipe, IsClaim, IsSentence};
 ghost use Rattle.cayley_terms.specs.Crossings.{cut_lowered, crossing_lowered};
-ghost use Rattle.cayley_terms.specs.Pairs.{pair_instr, objects_from_left};
+ghost use Rattle.cayley_terms.specs.Pairs.{pair_instr, objects_from_left, objects_conic};
 ghost use Rattle.cayley_terms.specs.Room.{Fits};
-ghost use Rattle.cayley_terms.specs.Straight.{nothing, pushed, object_lowered, objects_lowered, pascal_lowered, recipe_lowered, from_left_lowered, claim_lowered, point_lowered, ended, sentence_lowered, row_lowered};
+ghost use Rattle.cayley_terms.specs.Straight.{nothing, pushed, object_lowered, objects_lowered, pascal_lowered};
+ghost use Rattle.cayley_terms.specs.Straight.{recipe_lowered, from_left_lowered, conic_lowered, claim_lowered};
+ghost use Rattle.cayley_terms.specs.Straight.{point_lowered, defined_lowered, row_lowered};
 
 use crate::instr::Instr;
 use crate::numbers::Numbers;
@@ -94,7 +95,7 @@ impl Lowering {
 
     fn objects(&mut self, alloc: Global, line: u32, args: &[Arg]) -> Result<Vec<u32>, NoMemory>
         requires { Fits (objects_lowered line (objects args.now) self.old).0 }
-        ensures { IfOk result (λ numbers. (self.new, numbers.items) ≡ objects_lowered line (objects args.now) self.old) }
+        ensures { IfOk result (λ made. (self.new, made.items) ≡ objects_lowered line (objects args.now) self.old) }
     {
         let mut numbers = Vec::new(alloc);
         for arg in args {
@@ -138,8 +139,8 @@ impl Lowering {
         Ok(Instr::Meet(l, side))
     }
 
-    /// Adds the arguments of an expression, where the parameters have these names, and answers the instruction that makes
-    /// it of them.
+    /// Adds the arguments of an expression, where the parameters have these names, and answers the instruction that
+    /// makes it of them.
     fn recipe(
         &mut self,
         alloc: Global,
@@ -201,9 +202,38 @@ impl Lowering {
         self.from_left(line, pair, &numbers)
     }
 
+    /// Adds the six-point polynomial of six points.
+    fn six_points(&mut self, line: u32, six: &[u32]) -> Result<(), NoMemory>
+        requires six { length six.now ≡ 6 }
+        requires room { Fits (conic_lowered line six.now self.old).0 }
+        ensures { OnOk result (self.new ≡ (conic_lowered line six.now self.old).0) }
+    {
+        let (p1, p2, p3, p4, p5, p6) = (six[0], six[1], six[2], six[3], six[4], six[5]);
+        let instr = Instr::Conic {
+            p1,
+            p2,
+            p3,
+            p4,
+            p5,
+            p6,
+        };
+        self.push(line, None, instr)?;
+        Ok(())
+    }
+
+    /// Adds six objects, and the six-point polynomial of them.
+    fn conic(&mut self, alloc: Global, line: u32, args: &[Arg]) -> Result<(), NoMemory>
+        requires six { length (objects args.now) ≡ 6 }
+        requires room { Fits (objects_conic line (objects args.now) self.old) }
+        ensures { OnOk result (self.new ≡ objects_conic line (objects args.now) self.old) }
+    {
+        let six = self.objects(alloc, line, args)?;
+        self.six_points(line, &six)
+    }
+
     #[tactic(auto, unfolding(crate::specs::Straight::claim_lowered))]
     fn claim(&mut self, alloc: Global, line: u32, claim: &Conclusion) -> Result<(), NoMemory>
-        requires built { IsTrue (is_built_claim (said_claim claim.now)) }
+        requires formed { IsClaim (said_claim claim.now) }
         requires room { Fits (claim_lowered line (said_claim claim.now) self.old).0 }
         ensures { OnOk result (self.new ≡ (claim_lowered line (said_claim claim.now) self.old).0) }
     {
@@ -213,7 +243,7 @@ impl Lowering {
             | Conclusion::Meeting { args }
             | Conclusion::Incident { args } => self.chain(alloc, line, Pair::Join, args.items()),
             Conclusion::Concurrent { args } => self.chain(alloc, line, Pair::Meet, args.items()),
-            Conclusion::Conic { .. } => unreachable!(),
+            Conclusion::Conic { args } => self.conic(alloc, line, args.items()),
         }
     }
 
@@ -248,8 +278,8 @@ impl Lowering {
     ) -> Result<(), NoMemory>
         requires params { length params.now ≤ 64 }
         requires formed { IsRecipe (recipe expr.now) }
-        requires room { Fits (ended line name.now (recipe_lowered params.now line (recipe expr.now) self.old)) }
-        ensures { OnOk result (self.new ≡ ended line name.now (recipe_lowered params.now line (recipe expr.now) self.old)) }
+        requires room { Fits (defined_lowered params.now line name.now (recipe expr.now) self.old) }
+        ensures { OnOk result (self.new ≡ defined_lowered params.now line name.now (recipe expr.now) self.old) }
     {
         let instr = self.recipe(alloc, params, line, expr)?;
         let number = self.push(line, Some(self.definitions), instr)?;
@@ -267,7 +297,6 @@ impl Lowering {
     ) -> Result<(), NoMemory>
         requires params { length params.now ≤ 64 }
         requires formed { IsSentence (sentence statement.now.body) }
-        requires built { IsTrue (is_built_sentence (sentence statement.now.body)) }
         requires room { Fits (row_lowered params.now self.old (row statement.now)) }
         ensures { OnOk result (self.new ≡ row_lowered params.now self.old (row statement.now)) }
     {

@@ -4,8 +4,8 @@ ghost use Rattle.cayley_terms.specs.Programs.{IsProgram, IsProgram-prop};
 use crate::instr::Instr;
 use crate::items::Items;
 
-/// A straight list of instructions. Each names earlier ones; all but the last make points, lines and planes, and the last
-/// makes what the conclusion says to be zero.
+/// A straight list of instructions. Each names earlier ones; all but the last make points, lines and planes, and the
+/// last makes what the conclusion says to be zero.
 #[derive(Debug, Drop)]
 pub struct Program {
     pub rank: u8,

@@ -1,11 +1,10 @@
 //! Lowering a whole construction.
 
-ghost use Rattle.std.specs.Prelude.{◌≡◌, [], IfOk};
+ghost use Rattle.std.specs.Prelude.{◌≡◌, [], IfOk, sum_by};
 ghost use Rattle.construction_reader.specs.Said.{sentences_of};
-ghost use Rattle.construction_reader.specs.Grammar.{params_of};
+ghost use Rattle.construction_reader.specs.Grammar.{conclusions, params_of};
 ghost use Rattle.construction_reader.specs.Seen.{account};
 ghost use Rattle.step_types.specs.Checks.{IsGood};
-ghost use Rattle.cayley_terms.specs.Built.{IsBuilt};
 ghost use Rattle.cayley_terms.specs.Straight.{lowered};
 ghost use Rattle.cayley_terms.specs.Meaning.{conclusion_polynomial};
 ghost use Rattle.cayley_terms.specs.Kept.{KeepsDefinitions, KeepsMeasures, KeepsNames, IsStraight, polynomial_of};
@@ -22,8 +21,8 @@ use step_types::Checked;
 /// What all statements make, where the parameters have these names.
 fn lowering(alloc: Global, c: &Construction, params: &[Name]) -> Result<Lowering, NoMemory>
     requires good { IsGood (account c.now) }
+    requires one { sum_by conclusions (sentences_of (account c.now).rows) ≡ 1 }
     requires params { params.now ≡ params_of [] (sentences_of (account c.now).rows) }
-    requires built { IsBuilt (account c.now) }
     ensures { IfOk result (λ lowering. lowering ≡ lowered (account c.now)) }
 {
     let mut lowering = Lowering::new(alloc);
@@ -33,9 +32,9 @@ fn lowering(alloc: Global, c: &Construction, params: &[Name]) -> Result<Lowering
     Ok(lowering)
 }
 
-/// The program of a construction whose forms are built.
+/// The program of a construction that has one conclusion.
 pub fn lower(alloc: Global, c: &Checked) -> Result<Program, NoMemory>
-    requires { IsBuilt (account c.now) }
+    requires one { sum_by conclusions (sentences_of (account c.now).rows) ≡ 1 }
     ensures meaning { IfOk result (KeepsDefinitions (account c.now)) }
     ensures conclusion { IfOk result (λ p. polynomial_of p ≡ conclusion_polynomial (account c.now)) }
     ensures shape { IfOk result (IsStraight (account c.now)) }

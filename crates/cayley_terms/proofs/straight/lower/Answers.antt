@@ -12,7 +12,7 @@ steps-requires-clause-each c =
     (put_of c.args.c.now c.construction-construction.result.now c.in_ok-lowering.lowering _ _ _ _
     c.construction-construction.ensures.same (c.in_ok-lowering.ensures {u = tt}) c.lowering-2.view_is
     c.deref.ensures.value refl refl)
-    c.construction-construction.ensures.good c.requires c.args.c.now.given.good
+    c.construction-construction.ensures.good c.args.c.now.given.good c.requires.one
 
 pub invariant_of-result : goal.invariant_of-result
 invariant_of-result c =
@@ -22,7 +22,7 @@ invariant_of-result c =
           (put_of c.args.c.now c.construction-construction.result.now c.in_ok-lowering.lowering _ _ _ _
           c.construction-construction.ensures.same (c.in_ok-lowering.ensures {u = tt}) c.lowering-2.view_is
           c.of.ensures c.of-3.ensures c.of-4.ensures)
-          c.construction-construction.ensures.good c.requires c.args.c.now.given.good c.of-2.result
+          c.construction-construction.ensures.good c.args.c.now.given.good c.requires.one c.of-2.result
           (c.of-2.ensures ∙ c.in_ok-steps.ensures {u = tt}
           ∙ ap (λ (instrs : List Instr). map (λ m. m.step) (measures c.construction-construction.result.now.rank instrs))
           (c.deref.ensures.value ∙ sym c.of.ensures));
@@ -34,7 +34,7 @@ returns-clause-meaning c =
     (put_of c.args.c.now c.construction-construction.result.now c.in_ok-lowering.lowering _ _ _ _
     c.construction-construction.ensures.same (c.in_ok-lowering.ensures {u = tt}) c.lowering-2.view_is
     c.of.ensures c.of-3.ensures c.of-4.ensures)
-    c.construction-construction.ensures.good c.requires c.args.c.now.given.good
+    c.construction-construction.ensures.good c.args.c.now.given.good c.requires.one
 
 pub returns-clause-conclusion : goal.returns-clause-conclusion
 returns-clause-conclusion c =
@@ -42,7 +42,7 @@ returns-clause-conclusion c =
     (put_of c.args.c.now c.construction-construction.result.now c.in_ok-lowering.lowering _ _ _ _
     c.construction-construction.ensures.same (c.in_ok-lowering.ensures {u = tt}) c.lowering-2.view_is
     c.of.ensures c.of-3.ensures c.of-4.ensures)
-    c.construction-construction.ensures.good c.requires c.args.c.now.given.good
+    c.construction-construction.ensures.good c.args.c.now.given.good c.requires.one
 
 pub returns-clause-measures : goal.returns-clause-measures
 returns-clause-measures c =
@@ -50,7 +50,7 @@ returns-clause-measures c =
     (put_of c.args.c.now c.construction-construction.result.now c.in_ok-lowering.lowering _ _ _ _
     c.construction-construction.ensures.same (c.in_ok-lowering.ensures {u = tt}) c.lowering-2.view_is
     c.of.ensures c.of-3.ensures c.of-4.ensures)
-    c.construction-construction.ensures.good c.requires c.args.c.now.given.good
+    c.construction-construction.ensures.good c.args.c.now.given.good c.requires.one
 
 pub returns-clause-names : goal.returns-clause-names
 returns-clause-names c = (
@@ -59,5 +59,5 @@ returns-clause-names c = (
       (put_of c.args.c.now c.construction-construction.result.now c.in_ok-lowering.lowering _ _ _ _
       c.construction-construction.ensures.same (c.in_ok-lowering.ensures {u = tt}) c.lowering-2.view_is
       c.of.ensures c.of-3.ensures c.of-4.ensures)
-      c.construction-construction.ensures.good c.requires c.args.c.now.given.good,
+      c.construction-construction.ensures.good c.args.c.now.given.good c.requires.one,
 )

@@ -4,7 +4,7 @@ use Rattle.construction_reader.specs.Said.{row}
 use Rattle.construction_reader.specs.Seen.{account}
 use Rattle.cayley_terms.specs.Meaning.{Variables}
 use Rattle.cayley_terms.specs.Straight.{row_lowered}
-use Rattle.cayley_terms.proofs.StatementSteps.{rows_next, rows_room, built_at, formed_at}
+use Rattle.cayley_terms.proofs.StatementSteps.{rows_next, rows_room, formed_at}
 use Rattle.cayley_terms.proofs.ProgramLaws.{params_in, fits_whole, lowered_from}
 use Rattle.cayley_terms.proofs.straight.lowering.Goals as goal
 
@@ -14,12 +14,6 @@ loop-statement-init c =
     ap (λ (items : List Statement). fold (row_lowered params) c.new-lowering.result (map row (drop 0 items)))
     c.items-statement-items.ensures
     ∙ lowered_from (account c.args.c.now) c.new-lowering.result c.new-lowering.ensures
-
-pub statement-requires-clause-built : goal.statement-requires-clause-built
-statement-requires-clause-built c =
-    built_at c.args.c.now.statements c.loop-statement.statement-index c.statement-item.result
-    (rw c.items-statement-items.ensures at c.loop-statement-test.true)
-    (rw c.items-statement-items.ensures at c.statement-item.is) c.requires.built
 
 pub statement-requires-clause-formed : goal.statement-requires-clause-formed
 statement-requires-clause-formed c =
@@ -36,7 +30,7 @@ statement-requires-clause-room c =
     rw c.requires.params
     (rows_room (params_in a) c.items-statement-items.result.now c.loop-statement.statement-index c.statement-item.result
     c.loop-statement.lowering _ c.loop-statement-test.true c.statement-item.is
-    c.loop-statement.invariant (fits_whole Variables a c.requires.good c.requires.built c.args.c.now.given.good))
+    c.loop-statement.invariant (fits_whole Variables a c.requires.good c.args.c.now.given.good c.requires.one))
 
 pub loop-statement-preserved : goal.loop-statement-preserved
 loop-statement-preserved c =
