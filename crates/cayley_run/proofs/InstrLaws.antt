@@ -2,7 +2,7 @@
 use Rattle.std.proofs.Common.{◌≡◌, ℕ, zero, suc, ◌+◌, ◌-◌, ◌<◌, ◌≤◌, ◌==◌, ◌||◌, Bool, true, false, cond, List, [], ◌∷◌, ◌++◌}
 use Rattle.std.proofs.Common.{map, length, replicate, All, get_or, refl, sym, ap, ap₂, subst, ◌∙◌, arith, eqb-true, eq-eqb}
 use Rattle.std.proofs.Common.{true≢false}
-use Rattle.std.specs.Prelude.{None}
+use Rattle.std.specs.Prelude.{Some, None, Result, Ok, Err}
 use Rattle.std.specs.List.{AllByRecursion}
 use Rattle.std.proofs.Math.ListN.{get_or-map}
 use Rattle.std.proofs.lemmas.List.{length-map}
@@ -22,7 +22,7 @@ use Rattle.coordinate_model.proofs.RingLemmas as L
 use Rattle.coordinate_model.proofs.Splits.{at_each}
 use Rattle.coordinate_model.proofs.StartLaws.{starts_of_join, starts_of_meet, starts_of_on}
 use Rattle.coordinate_model.proofs.StartSizes.{IsEntry, IsSizedProduct, has_step, joins-sized, meets-sized, combinations-sized, parameter-keys}
-use Rattle.coordinate_model.proofs.ValueLaws.{free_one, coordinates-more, coordinates-none}
+use Rattle.coordinate_model.proofs.ValueLaws.{free_one, coordinates-more, coordinates-none, coordinates-scalar}
 use Rattle.step_types.specs.declared.measure.Measure.{Measure}
 use Rattle.cayley_terms.specs.declared.instr.Instr.{Instr}
 use Rattle.cayley_terms.specs.declared.instr.Instr.TheVariants.{Free, Join, Meet, On, Conic}
@@ -31,9 +31,17 @@ use Rattle.cayley_terms.specs.Instrs.{no_measure, measure_at, instr_measure, fig
 use Rattle.cayley_terms.specs.Meaning.{Variables}
 use Rattle.cayley_terms.specs.Programs.{IsInner, IsLast}
 use Rattle.cayley_terms.specs.Starts.{one_of, free_value}
-use Rattle.cayley_run.specs.Sections.{is_conclusion}
-use Rattle.cayley_run.specs.Runs.{Log, value_at, with_object, with_instr, IsRun}
+use Rattle.bracket_poly.specs.Tracked.{Tracked, Limit}
+use Rattle.conic_points.specs.Makings.{made_conic}
+use Rattle.straightening.specs.Runs.{limit_stop}
+use Rattle.cayley_run.specs.Sections.{Sections, run_starts}
+use Rattle.shuffle_meet.specs.Stops.{Start}
+use Rattle.shuffle_meet.specs.SectionStarts.{is_conclusion}
+use Rattle.bracket_poly.specs.Sections.{value_from}
+use Rattle.cayley_run.specs.Runs.{Log, value_at, with_object, with_start, with_instr}
 use Rattle.cayley_run.specs.RunLaws.{AllEndWell, IsValueOf, LastEnds}
+use Rattle.cayley_run.proofs.SectionLaws.{IsStart, starts_well, starts_ended, same_coordinates}
+use Rattle.cayley_run.proofs.ConicStarts.{IsPlanePoint, conic_start, conic_same}
 use Rattle.cayley_run.proofs.ObjectLaws as object
 
 -- what an instruction makes: its sizes, its object and its value
@@ -74,6 +82,18 @@ pub record HasScalar (d : ℕ) (figure : Figure Polynomials) (new : Log) : Type 
   pub end : BracketPolynomial
   pub last : LastEnds new end
   pub same : value end ≡ scalar Polynomials d figure
+
+-- a point of the plane
+pub plane_point : (d : ℕ) (x : Made) → IsMade d x → d ≡ 3 → x.measure.step ≡ 1 → IsPlanePoint x.value x.figure
+plane_point d x h three e =
+    let one : x.figure.step ≡ 1 = sym h.step ∙ e in
+    record {
+      one = one;
+      is_value = subst (λ k. IsValueOf k x.value x.figure) three h.is_value;
+      entries =
+          subst (λ k. AllByRecursion (IsEntry k 64 1) x.value) three
+          (subst (λ a. AllByRecursion (IsEntry d 64 a) x.value) one h.entries);
+    }
 
 -- ---- steps
 
@@ -241,6 +261,47 @@ module _ (d step a : ℕ) (rank : IsRank d) (ps : List Product) (figure : Figure
         );
   }
 
+-- ---- starts that are made at once
+
+module _ (d : ℕ) (rank : IsRank d) (figure : Figure Polynomials) (step : figure.step ≡ 0) (made : Result Tracked Limit)
+    (keys : (f : Tracked) → made ≡ Ok f → IsStart d 0 ([], f))
+    (same : (f : Tracked) → made ≡ Ok f → (K : List ℕ) → value f.sum ≡ figure.coordinates K) (log : Log)
+    (sections : AllEndWell d log.objects) where
+  pub adds_start : Adds d log (λ v. IsValueOf d v figure × HasScalar d figure (with_start 0 made log)) (with_start 0 made log)
+  adds_start = by_made made refl
+    where
+      by_made : (r : Result Tracked Limit) → made ≡ r
+          → Adds d log (λ v. IsValueOf d v figure × HasScalar d figure (with_start 0 r log)) (with_start 0 r log)
+      by_made (Err limit) e = record {
+        well =
+            object.worked_well d 0 log (record { sections = []; left = log.left; stop = Some (limit_stop limit) }) sections
+            tt;
+        value = [];
+        values = refl;
+        good = λ n. absurd cc;
+      }
+      by_made (Ok f) e =
+          let starts : List Start = ([], f) ∷ [] in
+          let s : Sections = run_starts log.left starts in
+          let formed : AllByRecursion (IsStart d 0) starts = (keys f e, tt) in
+          record {
+            well = object.worked_well d 0 log s sections (starts_well d 0 rank log.left starts formed);
+            value = value_from s.sections;
+            values = refl;
+            good = λ n.
+                let ended = starts_ended d 0 rank log.left starts formed n in
+                let last = object.one_section d 0 log s f ended in (
+                  λ i z l.
+                      let K = get_or (subsets d figure.step) i z in
+                      same_coordinates d starts s.sections ended K ∙ coordinates-scalar f.sum K ∙ same f e K,
+                  record {
+                    end = last.end;
+                    last = last.last;
+                    same = last.same ∙ same f e (cond (figure.step == 0) [] (columns d));
+                  },
+                );
+          }
+
 -- ---- free points
 
 free_coordinates : (n i : ℕ) (K : List ℕ) → coordinates (free_value n i) K ≡ (point Polynomials (free_point i)).coordinates K
@@ -306,9 +367,9 @@ module _ (d : ℕ) (rank : IsRank d) (made : List Made) (log : Log) (all : AllBy
   abbrev pub made_of : Instr → Value → Made
   made_of instr v = record { measure = instr_measure d (measures_of made) instr; figure = figure_of instr; value = v }
 
-  pub inner_instr : (instr : Instr) → IsRun instr → IsInner d (measures_of made) instr
+  pub inner_instr : (instr : Instr) → IsInner d (measures_of made) instr
       → Adds d log (λ v. IsMade d (made_of instr v)) (log_behind instr)
-  inner_instr (Free i) r h = record {
+  inner_instr (Free i) h = record {
     well = sections;
     value = free_value 64 i;
     values = refl;
@@ -320,7 +381,7 @@ module _ (d : ℕ) (rank : IsRank d) (made : List Made) (log : Log) (all : AllBy
       entries = (free_entry d 64 i, tt);
     };
   }
-  inner_instr (Join a b) r h =
+  inner_instr (Join a b) h =
       let x : IsMade d (at a) = is_at a h.earlier.0 in
       let y : IsMade d (at b) = is_at b h.earlier.1.0 in
       let e : step_of (Join a b) ≡ (at a).figure.step + (at b).figure.step = ap₂ ◌+◌ x.step y.step in
@@ -331,7 +392,7 @@ module _ (d : ℕ) (rank : IsRank d) (made : List Made) (log : Log) (all : AllBy
       (join_products d (value_at log a) (value_at log b)) (figure_of (Join a b))
       (join_work d rank (at a) (at b) x y (omega arith)) log sections (instr_measure d (measures_of made) (Join a b)) refl
       h.sized.least s (not_full d ((at a).figure.step + (at b).figure.step) few)
-  inner_instr (Meet a b) r h =
+  inner_instr (Meet a b) h =
       let x : IsMade d (at a) = is_at a h.earlier.0 in
       let y : IsMade d (at b) = is_at b h.earlier.1.0 in
       let e : (at a).measure.step + (at b).measure.step ≡ (at a).figure.step + (at b).figure.step = ap₂ ◌+◌ x.step y.step in
@@ -341,7 +402,7 @@ module _ (d : ℕ) (rank : IsRank d) (made : List Made) (log : Log) (all : AllBy
       (meet_products d (value_at log a) (value_at log b)) (figure_of (Meet a b))
       (meet_work d rank (at a) (at b) x y (omega arith)) log sections (instr_measure d (measures_of made) (Meet a b)) refl
       h.sized.least h.sized.below refl
-  inner_instr (On a b s t) r h =
+  inner_instr (On a b s t) h =
       let x : IsMade d (at a) = is_at a h.earlier.0 in
       let y : IsMade d (at b) = is_at b h.earlier.1.0 in
       let steps = h.steps in
@@ -349,13 +410,13 @@ module _ (d : ℕ) (rank : IsRank d) (made : List Made) (log : Log) (all : AllBy
       (figure_of (On a b s t))
       (on_work d rank (at a) (at b) x y s t steps.2 steps.3 (sym x.step ∙ steps.0) (sym y.step ∙ steps.1)) log sections
       (instr_measure d (measures_of made) (On a b s t)) refl (omega arith) (let l = rank.0 in omega arith) refl
-  inner_instr (Conic p1 p2 p3 p4 p5 p6) r h = absurd r
+  inner_instr (Conic p1 p2 p3 p4 p5 p6) h = absurd h.steps
 
-  pub last_instr : (instr : Instr) → IsRun instr → IsLast d (measures_of made) instr
+  pub last_instr : (instr : Instr) → IsLast d (measures_of made) instr
       → Adds d log (λ v. IsValueOf d v (figure_of instr) × HasScalar d (figure_of instr) (log_behind instr))
       (log_behind instr)
-  last_instr (Free i) r h = absurd h.steps
-  last_instr (Join a b) r h =
+  last_instr (Free i) h = absurd h.steps
+  last_instr (Join a b) h =
       let x : IsMade d (at a) = is_at a h.earlier.0 in
       let y : IsMade d (at b) = is_at b h.earlier.1.0 in
       let e : step_of (Join a b) ≡ (at a).figure.step + (at b).figure.step = ap₂ ◌+◌ x.step y.step in
@@ -370,7 +431,7 @@ module _ (d : ℕ) (rank : IsRank d) (made : List Made) (log : Log) (all : AllBy
       either : (p q : Bool) → q ≡ true → (p || q) ≡ true
       either true q f = refl
       either false q f = f
-  last_instr (Meet a b) r h =
+  last_instr (Meet a b) h =
       let x : IsMade d (at a) = is_at a h.earlier.0 in
       let y : IsMade d (at b) = is_at b h.earlier.1.0 in
       let e : (at a).measure.step + (at b).measure.step ≡ (at a).figure.step + (at b).figure.step = ap₂ ◌+◌ x.step y.step in
@@ -380,5 +441,22 @@ module _ (d : ℕ) (rank : IsRank d) (made : List Made) (log : Log) (all : AllBy
       (meet_products d (value_at log a) (value_at log b)) (figure_of (Meet a b))
       (meet_work d rank (at a) (at b) x y (omega arith)) log sections
       (ap (λ p. p || (step_of (Meet a b) == d)) (eq-eqb (step_of (Meet a b)) 0 (let z : step_of (Meet a b) ≡ 0 = omega arith in z)))
-  last_instr (On a b s t) r h = absurd h.steps
-  last_instr (Conic p1 p2 p3 p4 p5 p6) r h = absurd r
+  last_instr (On a b s t) h = absurd h.steps
+  last_instr (Conic p1 p2 p3 p4 p5 p6) h =
+      let l = h.earlier in
+      let t = h.steps.1 in
+      let three : d ≡ 3 = h.steps.0 in
+      let x1 = plane_point d (at p1) (is_at p1 l.0) three t.0 in
+      let x2 = plane_point d (at p2) (is_at p2 l.1.0) three t.1.0 in
+      let x3 = plane_point d (at p3) (is_at p3 l.1.1.0) three t.1.1.0 in
+      let x4 = plane_point d (at p4) (is_at p4 l.1.1.1.0) three t.1.1.1.0 in
+      let x5 = plane_point d (at p5) (is_at p5 l.1.1.1.1.0) three t.1.1.1.1.0 in
+      let x6 = plane_point d (at p6) (is_at p6 l.1.1.1.1.1.0) three t.1.1.1.1.1.0 in
+      adds_start d rank (figure_of (Conic p1 p2 p3 p4 p5 p6)) refl
+      (made_conic (at p1).value (at p2).value (at p3).value (at p4).value (at p5).value (at p6).value)
+      (λ f e. subst (λ k. IsStart k 0 ([], f)) (sym three)
+      (conic_start (at p1).value (at p2).value (at p3).value (at p4).value (at p5).value (at p6).value (at p1).figure
+      (at p2).figure (at p3).figure (at p4).figure (at p5).figure (at p6).figure x1 x2 x3 x4 x5 x6 f e))
+      (λ f e K. conic_same (at p1).value (at p2).value (at p3).value (at p4).value (at p5).value (at p6).value (at p1).figure
+      (at p2).figure (at p3).figure (at p4).figure (at p5).figure (at p6).figure x1 x2 x3 x4 x5 x6 f e)
+      log sections

@@ -1,7 +1,7 @@
 -- Bounds of keys: of products, and of keys and uses that have the parameters and the points of others.
 use Rattle.std.proofs.Common.{◌≡◌, ℕ, zero, suc, ◌+◌, ◌-◌, ◌*◌, ◌<◌, ◌≤◌, ◌==◌, Bool, true, false, cond, List, [], ◌∷◌, ◌++◌, length}
 use Rattle.std.proofs.Common.{refl, sym, ap, ap₂, subst, ◌∙◌, arith, flat_map, map, replicate, slice_set, get_or, nat_cmp}
-use Rattle.std.specs.Prelude.{Some, None, ◌*ℤ◌, slice_get}
+use Rattle.std.specs.Prelude.{Some, None, Ok, ◌*ℤ◌, slice_get}
 use Rattle.std.specs.List.{AllByRecursion, cons_option}
 use lib.ListN.{length-append}
 use Rattle.coordinate_model.specs.Sequences.{range, splits, at_places, repeats, sign_of}
@@ -19,7 +19,10 @@ use Rattle.coordinate_model.proofs.Splits.{all_so, all_append, all_map, all_flat
 use Rattle.coordinate_model.proofs.StartKeys.{keys-product}
 use Rattle.step_types.specs.declared.measure.Measure.{Measure}
 use Rattle.straightening.specs.RunLaws.{use_points}
-use Rattle.cayley_terms.specs.Instrs.{join_measure, meet_measure, on_measure}
+use Rattle.bracket_poly.specs.Tracked.{Tracked}
+use Rattle.cayley_terms.specs.Instrs.{join_measure, meet_measure, on_measure, conic_measure}
+use Rattle.conic_points.specs.Makings.{made_conic}
+use Rattle.conic_points.proofs.Graded.{ValueHas, conic_has}
 use Rattle.cayley_run.specs.Bounds.{ArePoints, AreExponents, IsKeyWithin, IsPolynomialWithin, IsUseWithin}
 
 -- an entry of a value within these bounds
@@ -318,3 +321,46 @@ module _ (n m : ℕ) where
             let t : length u.alpha + length u.gamma + 1 ≡ d = sizes.others in
             let m : d * (length u.rest + 2) ≡ d * length u.rest + (d + d) = omega arith in
             omega arith
+
+-- ---- six-point polynomials
+
+module _ (n m : ℕ) (m1 m2 m3 m4 m5 m6 : Measure) (v1 v2 v3 v4 v5 v6 : Value)
+    (h1 : AllByRecursion (IsEntryWithin n m m1) v1) (h2 : AllByRecursion (IsEntryWithin n m m2) v2)
+    (h3 : AllByRecursion (IsEntryWithin n m m3) v3) (h4 : AllByRecursion (IsEntryWithin n m m4) v4)
+    (h5 : AllByRecursion (IsEntryWithin n m m5) v5) (h6 : AllByRecursion (IsEntryWithin n m m6) v6) where
+  abbrev Sized : ℕ × ℕ → Value → Type 0
+  Sized =
+      ValueHas (λ rows degree. IsKeyWithin n m (large rows degree)) (λ p. p < n)
+      (λ r e s f. times_within n m (large r e) (large s f)) (no_row n m)
+      (λ ps h. one_row n m (sorted ps) (all_ordered nat_cmp (λ p. p < n) ps h))
+
+  sized : (size : Measure) (v : Value) → AllByRecursion (IsEntryWithin n m size) v → Sized (size.rows, size.degree) v
+  sized size [] h = tt
+  sized size (e ∷ v) h = (
+    record {
+      points = h.0.points;
+      keys =
+          all_so (λ t. IsKeyWithin n m size t.0) (λ t. IsKeyWithin n m (large size.rows size.degree) t.0)
+          (λ t k. more_within n m size (large size.rows size.degree) t.0 (omega arith) (omega arith) k) e.1.terms h.0.keys;
+    },
+    sized size v h.1,
+  )
+
+  pub conic_within : (q : Tracked) → made_conic v1 v2 v3 v4 v5 v6 ≡ Ok q
+      → IsPolynomialWithin n m (conic_measure m1 m2 m3 m4 m5 m6) q.sum
+  conic_within q e =
+      let all = conic_has (λ rows degree. IsKeyWithin n m (large rows degree)) (λ p. p < n)
+      (λ r e s f. times_within n m (large r e) (large s f)) (no_row n m)
+      (λ ps h. one_row n m (sorted ps) (all_ordered nat_cmp (λ p. p < n) ps h))
+      (m1.rows, m1.degree) (m2.rows, m2.degree) (m3.rows, m3.degree) (m4.rows, m4.degree) (m5.rows, m5.degree)
+      (m6.rows, m6.degree) v1 v2 v3 v4 v5 v6 q e
+      (record {
+        first = sized m1 v1 h1;
+        second = sized m2 v2 h2;
+        third = sized m3 v3 h3;
+        fourth = sized m4 v4 h4;
+        fifth = sized m5 v5 h5;
+        sixth = sized m6 v6 h6;
+      }) in
+      all_so _ (λ t. IsKeyWithin n m (conic_measure m1 m2 m3 m4 m5 m6) t.0)
+      (λ t k. more_within n m _ (conic_measure m1 m2 m3 m4 m5 m6) t.0 (omega arith) (omega arith) k) q.sum.terms all.keys

@@ -1,14 +1,16 @@
-pub mod StartSums
 pub mod SectionLaws
 pub mod ObjectLaws
+pub mod ConicStarts
 pub mod InstrLaws
 pub mod RunMeaning
 pub mod KeyBounds
 pub mod SectionBounds
 pub mod RunBounds
+pub mod RunTurns
 pub mod Scalars
 pub mod StartRuns
 pub mod SectionSteps
 pub mod Operands
+pub mod SixValues
 pub mod RunReady
 pub mod RunSteps

@@ -15,15 +15,52 @@ use Rattle.coordinate_model.proofs.StartKeys.{start-is, IsProduct}
 use Rattle.coordinate_model.proofs.StartLaws.{zero_entries}
 use Rattle.coordinate_model.proofs.StartSizes.{IsEntry, IsSizedProduct, all_reached}
 use Rattle.coordinate_model.proofs.ValueLaws.{coordinates-none, coordinates-scalar}
-use Rattle.bracket_poly.specs.Sections.{Rewritten, Worked}
+use Rattle.bracket_poly.specs.Sections.{Rewritten, Worked, value_from}
 use Rattle.bracket_poly.specs.Tracked.{Tracked, Limit, nothing}
-use Rattle.shuffle_meet.specs.Stops.{tracked_at, tracked_entries, first_stop}
+use Rattle.shuffle_meet.specs.Stops.{tracked_at, tracked_entries, first_stop, Start}
 use Rattle.straightening.specs.Runs.{limit_stop}
-use Rattle.cayley_run.specs.Sections.{Start, Sections, is_conclusion, section_starts, run_starts, value_from}
+use Rattle.cayley_run.specs.Sections.{Sections, run_starts}
+use Rattle.shuffle_meet.specs.SectionStarts.{is_conclusion, section_starts}
 use Rattle.cayley_run.specs.Runs.{Log, with_sections, with_object}
 use Rattle.cayley_run.specs.RunLaws.{EndsWell, AllEndWell, LastEnds}
-use Rattle.cayley_run.proofs.StartSums.{entries_at, tracked_sum, entries-tracked}
+use Rattle.shuffle_meet.proofs.StartSums.{entries_at, tracked_sum, entries-tracked}
 use Rattle.cayley_run.proofs.SectionLaws.{IsStart, AreEnded, starts_well, starts_ended, same_coordinates, entries_ended}
+
+-- with sections that end well, each section of the log does
+pub worked_well : (d step : ℕ) (log : Log) (s : Sections) → AllEndWell d log.objects → AllByRecursion (EndsWell d) s.sections
+    → AllEndWell d (with_sections step log s).objects
+worked_well d step log s h w =
+    all_append (λ (o : Worked). AllByRecursion (EndsWell d) o.sections) log.objects
+    (record { number = length log.objects + 1; step = step; sections = s.sections } ∷ []) h (w, tt)
+
+-- the log ends with one section, of this start
+pub record EndsOne (start : BracketPolynomial) (new : Log) : Type 0 where
+  pub end : BracketPolynomial
+  pub last : LastEnds new end
+  pub same : value end ≡ value start
+
+pub one_section : (d step : ℕ) (log : Log) (s : Sections) (f : Tracked) → AreEnded d (([], f) ∷ []) s.sections
+    → EndsOne f.sum (with_sections step log s)
+one_section d step log s f h = by_sections s.sections h refl
+  where
+    by_sections : (ss : List Rewritten) → AreEnded d (([], f) ∷ []) ss → s.sections ≡ ss
+        → EndsOne f.sum (with_sections step log s)
+    by_sections [] h e = absurd h
+    by_sections (x ∷ y ∷ ss) h e = absurd h.1
+    by_sections (x ∷ []) h e = record {
+      end = h.0.end;
+      last = record {
+        front = log.objects;
+        number = length log.objects + 1;
+        step = step;
+        section = x;
+        last =
+            ap (λ (ss : List Rewritten). log.objects
+            ++ record { number = length log.objects + 1; step = step; sections = ss } ∷ []) e;
+        ends = h.0.ended;
+      };
+      same = h.0.well.same_value;
+    }
 
 -- products of an object of this step in rank d, whose extensors have a points: none where it is a conclusion
 module _ (d a step : ℕ) (rank : IsRank d) (ps : List Product) (sized : AllByRecursion (IsSizedProduct d 64 a) ps)
@@ -118,12 +155,6 @@ module _ (d a step : ℕ) (rank : IsRank d) (ps : List Product) (sized : AllByRe
       | None ↦ with_sections step log (run_starts log.left (section_starts d step ps))
     ]
 
-    worked_well : (s : Sections) → AllEndWell d log.objects → AllByRecursion (EndsWell d) s.sections
-        → AllEndWell d (with_sections step log s).objects
-    worked_well s h w =
-        all_append (λ (o : Worked). AllByRecursion (EndsWell d) o.sections) log.objects
-        (record { number = length log.objects + 1; step = step; sections = s.sections } ∷ []) h (w, tt)
-
     pub has_object : AllEndWell d log.objects → HasObject log (with_object d step ps log)
     has_object h = by_limit (first_stop [] ps)
       where
@@ -132,14 +163,14 @@ module _ (d a step : ℕ) (rank : IsRank d) (ps : List Product) (sized : AllByRe
 
         by_limit : (o : Option Limit) → HasObject log (object_by o)
         by_limit (Some limit) = record {
-          well = worked_well (record { sections = []; left = log.left; stop = Some (limit_stop limit) }) h tt;
+          well = worked_well d step log (record { sections = []; left = log.left; stop = Some (limit_stop limit) }) h tt;
           value = [];
           values = refl;
           same = λ e. cc;
           entries = λ e. cc;
         }
         by_limit None = record {
-          well = worked_well s h (starts_well d a rank log.left (section_starts d step ps) starts-are);
+          well = worked_well d step log s h (starts_well d a rank log.left (section_starts d step ps) starts-are);
           value = value_from s.sections;
           values = refl;
           same = λ e K.
@@ -149,30 +180,6 @@ module _ (d a step : ℕ) (rank : IsRank d) (ps : List Product) (sized : AllByRe
           entries = λ e.
               entries_ended d a (section_starts d step ps) s.sections
               (starts_ended d a rank log.left (section_starts d step ps) starts-are e) starts-are;
-        }
-
-    -- one section of one start
-    one_section : (s : Sections) (f : Tracked) → AreEnded d (([], f) ∷ []) s.sections
-        → ((K : List ℕ) → value f.sum ≡ coordinates (starts ps) K) → HasEnd (with_sections step log s)
-    one_section s f h same = by_sections s.sections h refl
-      where
-        by_sections : (ss : List Rewritten) → AreEnded d (([], f) ∷ []) ss → s.sections ≡ ss
-            → HasEnd (with_sections step log s)
-        by_sections [] h e = absurd h
-        by_sections (x ∷ y ∷ ss) h e = absurd h.1
-        by_sections (x ∷ []) h e = record {
-          end = h.0.end;
-          last = record {
-            front = log.objects;
-            number = length log.objects + 1;
-            step = step;
-            section = x;
-            last =
-                ap (λ (ss : List Rewritten). log.objects
-                ++ record { number = length log.objects + 1; step = step; sections = ss } ∷ []) e;
-            ends = h.0.ended;
-          };
-          same = λ K. h.0.well.same_value ∙ same K;
         }
 
     pub has_end : is_conclusion d step ≡ true → (with_object d step ps log).stop ≡ None
@@ -186,8 +193,13 @@ module _ (d a step : ℕ) (rank : IsRank d) (ps : List Product) (sized : AllByRe
         by_limit (Some limit) e = cc
         by_limit None e =
             let one = one_start c in
-            one_section s one.0
+            let last = one_section d step log s one.0
             (subst (λ (es : List Start). AreEnded d es s.sections) one.1
-            (starts_ended d a rank log.left (section_starts d step ps) starts-are e))
-            (λ K. sym (coordinates-scalar one.0.sum K)
-            ∙ ap (λ (es : List Start). coordinates (entries_at es) K) (sym one.1) ∙ starts-same K)
+            (starts_ended d a rank log.left (section_starts d step ps) starts-are e)) in
+            record {
+              end = last.end;
+              last = last.last;
+              same = λ K.
+                  last.same ∙ sym (coordinates-scalar one.0.sum K)
+                  ∙ ap (λ (es : List Start). coordinates (entries_at es) K) (sym one.1) ∙ starts-same K;
+            }

@@ -1,11 +1,11 @@
 -- The values that an instruction names, in the code and in the log.
-use Rattle.std.proofs.Common.{◌≡◌, ℕ, zero, suc, ◌+◌, ◌-◌, ◌<◌, ◌≤◌, List, [], ◌∷◌, map, length, get_or, sym, ap, ap₂}
+use Rattle.std.proofs.Common.{◌≡◌, ℕ, zero, suc, ◌+◌, ◌<◌, ◌≤◌, List, [], ◌∷◌, map, length, get_or, sym, ap, ap₂}
 use Rattle.std.proofs.Common.{subst, ◌∙◌, arith, replicate, slice_set}
 use Rattle.std.proofs.lemmas.List.{length-map}
 use Rattle.std.specs.Prelude.{Result, OnOk}
 use Rattle.std.specs.List.{AllByRecursion}
 use Rattle.coordinate_model.specs.BracketPolynomial.{parameter_of}
-use Rattle.coordinate_model.specs.Starts.{Entry, Product, join_products, meet_products, on_products}
+use Rattle.coordinate_model.specs.Starts.{Entry, Product, join_products}
 use Rattle.coordinate_model.specs.Value as model
 use Rattle.coordinate_model.proofs.KeySets.{all_single}
 use Rattle.coordinate_model.proofs.Splits.{all_so, all_set, all_replicate}
@@ -14,11 +14,11 @@ use Rattle.bracket_poly.specs.Values.{value_of}
 use Rattle.bracket_poly.specs.declared.value.Value.{Value}
 use Rattle.bracket_poly.proofs.Degrees.{exponents_fit}
 use Rattle.cayley_terms.specs.declared.instr.Instr.{Instr}
-use Rattle.cayley_terms.specs.declared.instr.Instr.TheVariants.{Join, Meet, On}
+use Rattle.cayley_terms.specs.declared.instr.Instr.TheVariants.{Join, Meet, On, Conic}
 use Rattle.cayley_terms.specs.Starts.{value_at, products_of}
 use Rattle.cayley_terms.specs.Starts as operation
 use Rattle.shuffle_meet.specs.Objects.{AreJoined, AreMet, AreMixed}
-use Rattle.cayley_run.specs.Ready.{IsOperand, step_at, ArePair, IsJoin, IsMeet, IsMixed, Makes, IsReady}
+use Rattle.cayley_run.specs.Ready.{IsOperand, step_at, ArePair, IsJoin, IsMeet, IsMixed, IsConic, Makes, IsReady}
 use Rattle.cayley_run.specs.Runs.{Log, with_object, with_instr}
 use Rattle.cayley_run.specs.Seen.{log_of, steps_of}
 use Rattle.cayley_run.specs.declared.progress.Progress.{Progress}
@@ -162,3 +162,8 @@ makes_meet d steps log instr a b step h e = subst (λ i. Makes d steps log i ste
 pub makes_mixed : (d : ℕ) (steps : List ℕ) (log : Log) (instr : Instr) (a b s t step : ℕ)
     → IsReady d steps log instr step → instr ≡ On a b s t → IsMixed d steps log a b s t step
 makes_mixed d steps log instr a b s t step h e = subst (λ i. Makes d steps log i step) e h.makes
+
+pub makes_conic : (d : ℕ) (steps : List ℕ) (log : Log) (instr : Instr) (p1 p2 p3 p4 p5 p6 step : ℕ)
+    → IsReady d steps log instr step → instr ≡ Conic p1 p2 p3 p4 p5 p6
+    → IsConic d steps log (p1 ∷ p2 ∷ p3 ∷ p4 ∷ p5 ∷ p6 ∷ []) step
+makes_conic d steps log instr p1 p2 p3 p4 p5 p6 step h e = subst (λ i. Makes d steps log i step) e h.makes

@@ -1,7 +1,7 @@
 -- Runs stay within the bounds of their programs.
 use Rattle.std.proofs.Common.{◌≡◌, ℕ, ◌+◌, ◌-◌, ◌<◌, ◌≤◌, ◌==◌, List, [], ◌∷◌, ◌++◌, cond, map, zip, length, get_or, replicate}
 use Rattle.std.proofs.Common.{true, zero, suc, refl, sym, ap, ap₂, subst, ◌∙◌, arith, append_assoc, append-nil}
-use Rattle.std.specs.Prelude.{Option, Some, None}
+use Rattle.std.specs.Prelude.{Option, Some, None, Result, Ok, Err}
 use Rattle.std.specs.List.{AllByRecursion}
 use Rattle.std.proofs.Math.Seq.{get_or-append_seam}
 use Rattle.coordinate_model.specs.Sequences.{IsRank}
@@ -15,26 +15,30 @@ use Rattle.coordinate_model.proofs.StartSizes.{IsEntry, IsSizedProduct}
 use Rattle.step_types.specs.declared.measure.Measure.{Measure}
 use Rattle.step_types.specs.declared.names.Names.{Names}
 use Rattle.step_types.specs.Measures.{free_point}
-use Rattle.bracket_poly.specs.Sections.{Worked}
-use Rattle.bracket_poly.specs.Tracked.{Limit}
+use Rattle.bracket_poly.specs.Sections.{Worked, value_from}
+use Rattle.bracket_poly.specs.Tracked.{Tracked, Limit}
+use Rattle.conic_points.specs.Makings.{made_conic}
 use Rattle.shuffle_meet.specs.Stops.{first_stop}
 use Rattle.straightening.specs.Runs.{Stop, limit_stop}
 use Rattle.cayley_terms.specs.declared.instr.Instr.{Instr}
 use Rattle.cayley_terms.specs.declared.instr.Instr.TheVariants.{Free, Join, Meet, On, Conic}
-use Rattle.cayley_terms.specs.Instrs.{measure_at, instr_measure, join_measure, meet_measure, on_measure}
+use Rattle.cayley_terms.specs.Instrs.{measure_at, instr_measure, join_measure, meet_measure, on_measure, conic_measure}
 use Rattle.cayley_terms.specs.Kept.{IsNamed}
 use Rattle.cayley_terms.specs.Programs.{NamesEarlier, EndsInOne, IsInner, IsLast, steps_together}
 use Rattle.cayley_terms.specs.Starts.{one_of, free_value}
-use Rattle.cayley_run.specs.Sections.{Sections, is_conclusion, section_starts, run_starts, value_from}
-use Rattle.cayley_run.specs.Runs.{Log, at_start, with_sections, with_object, with_instr, run_on, run_of, IsRun}
+use Rattle.cayley_run.specs.Sections.{Sections, run_starts}
+use Rattle.shuffle_meet.specs.SectionStarts.{is_conclusion, section_starts}
+use Rattle.cayley_run.specs.Runs.{Log, at_start, with_sections, with_object, with_start, with_instr, run_on, run_of}
 use Rattle.cayley_run.specs.RunLaws.{AllEndWell}
-use Rattle.cayley_run.specs.Bounds.{HasNumbers, IsKeyWithin, IsSectionWithin, object_measures, AreWithin}
+use Rattle.cayley_run.specs.Bounds.{HasNumbers, IsKeyWithin, IsPolynomialWithin, IsSectionWithin, object_measures, AreWithin}
 use Rattle.cayley_run.specs.Bounds.{RunIsWithin}
-use Rattle.cayley_run.proofs.KeyBounds.{IsEntryWithin, IsProductWithin, joins_within, meets_within, mixed_within}
+use Rattle.cayley_run.proofs.KeyBounds.{IsEntryWithin, IsProductWithin, joins_within, meets_within, mixed_within, conic_within}
 use Rattle.cayley_run.proofs.SectionBounds.{starts_within, value_within, section_starts_within}
+use Rattle.cayley_run.proofs.SectionLaws.{IsStart}
+use Rattle.cayley_run.proofs.ConicStarts.{conic_start}
 use Rattle.cayley_run.proofs.ObjectLaws.{starts-are}
 use Rattle.cayley_run.proofs.InstrLaws.{Made, measures_of, values_of, IsMade, Adds, made_at, holds_at}
-use Rattle.cayley_run.proofs.InstrLaws.{join_work, meet_work, on_work, made_of, inner_instr}
+use Rattle.cayley_run.proofs.InstrLaws.{join_work, meet_work, on_work, made_of, plane_point, inner_instr}
 use Rattle.cayley_run.proofs.RunMeaning.{new_behind, made-new, with_steps, stopped, goes_on}
 
 -- ---- objects
@@ -50,20 +54,35 @@ pub record AddsObject (n m : ℕ) (size : Measure) (log new : Log) : Type 0 wher
   pub within : AllByRecursion (IsSectionWithin n m size) object.sections
   pub value : (v : Value) → new.values ≡ log.values ++ v ∷ [] → AllByRecursion (IsEntryWithin n m size) v
 
+adds_sections : (n m : ℕ) (size : Measure) (step : ℕ) (log : Log) (s : Sections)
+    → AllByRecursion (IsSectionWithin n m size) s.sections → AddsObject n m size log (with_sections step log s)
+adds_sections n m size step log s h = record {
+  object = record { number = length log.objects + 1; step = step; sections = s.sections };
+  objects = refl;
+  within = h;
+  value = λ v e.
+      subst (AllByRecursion (IsEntryWithin n m size)) (last_same log.values (value_from s.sections) v e)
+      (value_within n m size s.sections h);
+}
+
+-- a start that is made at once
+module _ (n m : ℕ) (size : Measure) (d : ℕ) (rank : IsRank d) (made : Result Tracked Limit)
+    (keys : (f : Tracked) → made ≡ Ok f → IsStart d 0 ([], f))
+    (within : (f : Tracked) → made ≡ Ok f → IsPolynomialWithin n m size f.sum) (log : Log) where
+  adds_made : AddsObject n m size log (with_start 0 made log)
+  adds_made = by_made made refl
+    where
+      by_made : (r : Result Tracked Limit) → made ≡ r → AddsObject n m size log (with_start 0 r log)
+      by_made (Err limit) e =
+          adds_sections n m size 0 log (record { sections = []; left = log.left; stop = Some (limit_stop limit) }) tt
+      by_made (Ok f) e =
+          adds_sections n m size 0 log (run_starts log.left (([], f) ∷ []))
+          (starts_within n m size d 0 rank log.left (([], f) ∷ []) (keys f e, tt)
+          (record { points = tt; keys = within f e }, tt))
+
 module _ (n m : ℕ) (size : Measure) (d a step : ℕ) (rank : IsRank d) (ps : List Product)
     (sized : AllByRecursion (IsSizedProduct d 64 a) ps) (none : is_conclusion d step ≡ true → a ≡ 0)
     (within : AllByRecursion (IsProductWithin n m size) ps) (log : Log) where
-  adds_sections : (s : Sections) → AllByRecursion (IsSectionWithin n m size) s.sections
-      → AddsObject n m size log (with_sections step log s)
-  adds_sections s h = record {
-    object = record { number = length log.objects + 1; step = step; sections = s.sections };
-    objects = refl;
-    within = h;
-    value = λ v e.
-        subst (AllByRecursion (IsEntryWithin n m size)) (last_same log.values (value_from s.sections) v e)
-        (value_within n m size s.sections h);
-  }
-
   pub adds_object : AddsObject n m size log (with_object d step ps log)
   adds_object = by_limit (first_stop [] ps)
     where
@@ -72,9 +91,9 @@ module _ (n m : ℕ) (size : Measure) (d a step : ℕ) (rank : IsRank d) (ps : L
         | None ↦ with_sections step log (run_starts log.left (section_starts d step ps))
       ])
       by_limit (Some limit) =
-          adds_sections (record { sections = []; left = log.left; stop = Some (limit_stop limit) }) tt
+          adds_sections n m size step log (record { sections = []; left = log.left; stop = Some (limit_stop limit) }) tt
       by_limit None =
-          adds_sections (run_starts log.left (section_starts d step ps))
+          adds_sections n m size step log (run_starts log.left (section_starts d step ps))
           (starts_within n m size d a rank log.left (section_starts d step ps) (starts-are d a step rank ps sized none)
           (section_starts_within n m size d step ps within))
 
@@ -87,21 +106,22 @@ Fits d before (Join a b) = steps_together before a b ≤ d
 Fits d before (Meet a b) = d ≤ steps_together before a b
 Fits d before (On a b s t) =
     ((measure_at before a).step ≡ 1) × ((measure_at before b).step ≡ 1) × (s < 64) × (t < 64)
-Fits d before (Conic p1 p2 p3 p4 p5 p6) = Unit {0}
+Fits d before (Conic p1 p2 p3 p4 p5 p6) =
+    (d ≡ 3) × AllByRecursion (λ n. (measure_at before n).step ≡ 1) (p1 ∷ p2 ∷ p3 ∷ p4 ∷ p5 ∷ p6 ∷ [])
 
 pub inner_fits : (d : ℕ) (before : List Measure) (instr : Instr) → IsInner d before instr → Fits d before instr
 inner_fits d before (Free i) h = tt
 inner_fits d before (Join a b) h = let s : steps_together before a b < d = h.steps in omega arith
 inner_fits d before (Meet a b) h = let s : d < steps_together before a b = h.steps in omega arith
 inner_fits d before (On a b s t) h = h.steps
-inner_fits d before (Conic p1 p2 p3 p4 p5 p6) h = tt
+inner_fits d before (Conic p1 p2 p3 p4 p5 p6) h = absurd h.steps
 
 pub last_fits : (d : ℕ) (before : List Measure) (instr : Instr) → IsLast d before instr → Fits d before instr
 last_fits d before (Free i) h = tt
 last_fits d before (Join a b) h = let s : steps_together before a b ≡ d = h.steps in omega arith
 last_fits d before (Meet a b) h = let s : steps_together before a b ≡ d = h.steps in omega arith
 last_fits d before (On a b s t) h = absurd h.steps
-last_fits d before (Conic p1 p2 p3 p4 p5 p6) h = tt
+last_fits d before (Conic p1 p2 p3 p4 p5 p6) h = h.steps
 
 -- a value within the bounds of its measure
 abbrev pub IsMadeWithin : ℕ → ℕ → Made → Type 0
@@ -171,18 +191,18 @@ module _ (n m d : ℕ) (rank : IsRank d) (made : List Made) (log : Log) (all : A
     value = h.value;
   }
 
-  pub instr_within : (instr : Instr) → IsRun instr → HasNumbers n m instr → NamesEarlier (measures_of made) instr
+  pub instr_within : (instr : Instr) → HasNumbers n m instr → NamesEarlier (measures_of made) instr
       → Fits d (measures_of made) instr
       → GrowsByOne n m log instr (instr_measure d (measures_of made) instr)
       (with_instr d log (instr, (instr_measure d (measures_of made) instr).step))
-  instr_within (Free i) r b h f = record {
+  instr_within (Free i) b h f = record {
     grows = record { more = []; objects = sym (append-nil log.objects); within = tt };
     exact = refl;
     value = λ v e.
         subst (AllByRecursion (IsEntryWithin n m free_point)) (last_same log.values (free_value 64 i) v e)
         (free_within n m 64 i b, tt);
   }
-  instr_within (Join a b) r c h f =
+  instr_within (Join a b) c h f =
       let x : IsMade d (at a) = is_at a h.0 in
       let y : IsMade d (at b) = is_at b h.1.0 in
       let e : (at a).measure.step + (at b).measure.step ≡ (at a).figure.step + (at b).figure.step = ap₂ ◌+◌ x.step y.step in
@@ -194,7 +214,7 @@ module _ (n m d : ℕ) (rank : IsRank d) (made : List Made) (log : Log) (all : A
       (cond ((at a).figure.step + (at b).figure.step == d) 0 ((at a).figure.step + (at b).figure.step))
       ((at a).measure.step + (at b).measure.step) rank (join_products d (at a).value (at b).value) w.sized w.none
       (joins_within n m d (at a).measure (at b).measure (at a).value (at b).value (sized_at a h.0) (sized_at b h.1.0)) log)
-  instr_within (Meet a b) r c h f =
+  instr_within (Meet a b) c h f =
       let x : IsMade d (at a) = is_at a h.0 in
       let y : IsMade d (at b) = is_at b h.1.0 in
       let e : (at a).measure.step + (at b).measure.step ≡ (at a).figure.step + (at b).figure.step = ap₂ ◌+◌ x.step y.step in
@@ -205,7 +225,7 @@ module _ (n m d : ℕ) (rank : IsRank d) (made : List Made) (log : Log) (all : A
       (adds_object n m (meet_measure d (at a).measure (at b).measure) d ((at a).figure.step + (at b).figure.step - d)
       ((at a).measure.step + (at b).measure.step - d) rank (meet_products d (at a).value (at b).value) w.sized w.none
       (meets_within n m d (at a).measure (at b).measure (at a).value (at b).value (within_at a h.0) (within_at b h.1.0)) log)
-  instr_within (On a b s t) r c h f =
+  instr_within (On a b s t) c h f =
       let x : IsMade d (at a) = is_at a h.0 in
       let y : IsMade d (at b) = is_at b h.1.0 in
       let products = on_products (parameter_of 64 s) (parameter_of 64 t) (at a).value (at b).value in
@@ -214,7 +234,27 @@ module _ (n m d : ℕ) (rank : IsRank d) (made : List Made) (log : Log) (all : A
       (adds_object n m (on_measure (at a).measure (at b).measure) d 1 1 rank products w.sized w.none
       (mixed_within n m (at a).measure (at b).measure s t c.0 c.1 (at a).value (at b).value (within_at a h.0)
       (within_at b h.1.0)) log)
-  instr_within (Conic p1 p2 p3 p4 p5 p6) r c h f = absurd r
+  instr_within (Conic p1 p2 p3 p4 p5 p6) c h f =
+      let t = f.1 in
+      let x1 = plane_point d (at p1) (is_at p1 h.0) f.0 t.0 in
+      let x2 = plane_point d (at p2) (is_at p2 h.1.0) f.0 t.1.0 in
+      let x3 = plane_point d (at p3) (is_at p3 h.1.1.0) f.0 t.1.1.0 in
+      let x4 = plane_point d (at p4) (is_at p4 h.1.1.1.0) f.0 t.1.1.1.0 in
+      let x5 = plane_point d (at p5) (is_at p5 h.1.1.1.1.0) f.0 t.1.1.1.1.0 in
+      let x6 = plane_point d (at p6) (is_at p6 h.1.1.1.1.1.0) f.0 t.1.1.1.1.1.0 in
+      let size = conic_measure (at p1).measure (at p2).measure (at p3).measure (at p4).measure (at p5).measure (at p6).measure
+      in
+      let start = made_conic (at p1).value (at p2).value (at p3).value (at p4).value (at p5).value (at p6).value in
+      one_object (Conic p1 p2 p3 p4 p5 p6) size (with_start 0 start log) refl
+      (adds_made n m size d rank start
+      (λ q e. subst (λ k. IsStart k 0 ([], q)) (sym f.0)
+      (conic_start (at p1).value (at p2).value (at p3).value (at p4).value (at p5).value (at p6).value (at p1).figure
+      (at p2).figure (at p3).figure (at p4).figure (at p5).figure (at p6).figure x1 x2 x3 x4 x5 x6 q e))
+      (conic_within n m (at p1).measure (at p2).measure (at p3).measure (at p4).measure (at p5).measure (at p6).measure
+      (at p1).value (at p2).value (at p3).value (at p4).value (at p5).value (at p6).value (within_at p1 h.0)
+      (within_at p2 h.1.0) (within_at p3 h.1.1.0) (within_at p4 h.1.1.1.0) (within_at p5 h.1.1.1.1.0)
+      (within_at p6 h.1.1.1.1.1.0))
+      log)
 
 -- ---- runs
 
@@ -244,23 +284,23 @@ within_both n m (o ∷ objects) others (size ∷ sizes) more h e k =
 module _ (n m d : ℕ) (rank : IsRank d) where
   pub run_on_within : (made : List Made) (log : Log) (instrs : List Instr) → AllByRecursion (IsMade d) made
       → AllByRecursion (IsMadeWithin n m) made → log.values ≡ values_of made → AllEndWell d log.objects
-      → log.stop ≡ None → EndsInOne d (measures_of made) instrs → AllByRecursion IsRun instrs
+      → log.stop ≡ None → EndsInOne d (measures_of made) instrs
       → AllByRecursion (HasNumbers n m) instrs
       → Grows n m log (object_measures instrs (new_behind (instr_measure d) (measures_of made) instrs))
       (run_on d log (with_steps d (measures_of made) instrs))
-  run_on_within made log [] all within values sections e h r b = absurd h
-  run_on_within made log (instr ∷ []) all within values sections e h r b =
+  run_on_within made log [] all within values sections e h b = absurd h
+  run_on_within made log (instr ∷ []) all within values sections e h b =
       subst (Grows n m log (object_measures (instr ∷ []) (instr_measure d (measures_of made) instr ∷ [])))
       (sym (goes_on d log e (instr, (instr_measure d (measures_of made) instr).step) []))
-      (instr_within n m d rank made log all within values instr r.0 b.0 h.earlier
+      (instr_within n m d rank made log all within values instr b.0 h.earlier
       (last_fits d (measures_of made) instr h)).grows
-  run_on_within made log (instr ∷ next ∷ instrs) all within values sections e h r b =
+  run_on_within made log (instr ∷ next ∷ instrs) all within values sections e h b =
       subst (Grows n m log (object_measures (instr ∷ next ∷ instrs) (size ∷ later)))
       (sym (goes_on d log e (instr, size.step) rest))
       (subst (λ sizes. Grows n m log sizes (run_on d new rest)) (sym (first_measures instr size (next ∷ instrs) later))
       (by_stop new.stop refl
       (λ x log all within values sections e h. run_on_within (made ++ x ∷ []) log (next ∷ instrs) all within values
-      sections e h r.1 b.1)))
+      sections e h b.1)))
     where
       size : Measure
       size = instr_measure d (measures_of made) instr
@@ -275,14 +315,14 @@ module _ (n m d : ℕ) (rank : IsRank d) where
       new = with_instr d log (instr, size.step)
 
       added : Adds d log (λ v. IsMade d (made_of d rank made log all values sections instr v)) new
-      added = inner_instr d rank made log all values sections instr r.0 h.0
+      added = inner_instr d rank made log all values sections instr h.0
 
       x : Made
       x = made_of d rank made log all values sections instr added.value
 
       one : GrowsByOne n m log instr size new
       one =
-          instr_within n m d rank made log all within values instr r.0 b.0 h.0.earlier
+          instr_within n m d rank made log all within values instr b.0 h.0.earlier
           (inner_fits d (measures_of made) instr h.0)
 
       -- the run from one more on
@@ -329,12 +369,12 @@ module _ (n m d : ℕ) (rank : IsRank d) where
 
 pub run_is_within : RunIsWithin
 unfolding run_of
-run_is_within budget p r n m b =
+run_is_within budget p n m b =
     let sizes : List Measure = new_behind (instr_measure p.rank) [] p.instrs in
     let same = made-new (instr_measure p.rank) [] p.instrs in
     let g : Grows n m (at_start budget) (object_measures p.instrs (new_behind (instr_measure p.rank) [] p.instrs))
     (run_on p.rank (at_start budget) (with_steps p.rank [] p.instrs)) =
-    run_on_within n m p.rank p.formed.rank [] (at_start budget) p.instrs tt tt refl tt refl p.formed.each r b in
+    run_on_within n m p.rank p.formed.rank [] (at_start budget) p.instrs tt tt refl tt refl p.formed.each b in
     subst (λ (ms : List Measure). AreWithin n m (run_on p.rank (at_start budget) (zip p.instrs p.steps)).objects
     (object_measures p.instrs ms)) (sym same)
     (subst (λ (ns : List ℕ). AreWithin n m (run_on p.rank (at_start budget) (zip p.instrs ns)).objects

@@ -22,7 +22,7 @@ use Rattle.cayley_terms.specs.Figures.{Figure, no_figure, scalar}
 use Rattle.cayley_terms.specs.Instrs.{made_behind, instr_measure, instr_figure}
 use Rattle.cayley_terms.specs.Meaning.{Variables}
 use Rattle.cayley_terms.specs.Programs.{EndsInOne, IsLast}
-use Rattle.cayley_run.specs.Runs.{Log, at_start, with_instr, run_on, run_of, IsRun}
+use Rattle.cayley_run.specs.Runs.{Log, at_start, with_instr, run_on, run_of}
 use Rattle.cayley_run.specs.RunLaws.{IsEndOf, EndsWell, AllEndWell, IsValueOf, LastEnds, RunMeans}
 use Rattle.cayley_run.proofs.InstrLaws.{Made, nothing_made, measures_of, figures_of, values_of, IsMade, Adds, HasScalar}
 use Rattle.cayley_run.proofs.InstrLaws.{log_behind, figure_of, made_of, inner_instr, last_instr}
@@ -88,10 +88,10 @@ module _ (d : ℕ) (rank : IsRank d) where
   all_figures made instrs = made_behind (instr_figure Variables d) (figures_of made) instrs
 
   last_means : (made : List Made) (log : Log) (instr : Instr) → AllByRecursion (IsMade d) made
-      → log.values ≡ values_of made → AllEndWell d log.objects → IsRun instr → IsLast d (measures_of made) instr
+      → log.values ≡ values_of made → AllEndWell d log.objects → IsLast d (measures_of made) instr
       → Means d (figures_of made ++ instr_figure Variables d (figures_of made) instr ∷ [])
       (with_instr d log (instr, (instr_measure d (measures_of made) instr).step))
-  last_means made log instr all values sections r h = record {
+  last_means made log instr all values sections h = record {
     sections = added.well;
     finishes = λ e. record {
       made = made ++ made_of d rank made log all values sections instr added.value ∷ [];
@@ -116,7 +116,7 @@ module _ (d : ℕ) (rank : IsRank d) where
           × HasScalar d (figure_of d rank made log all values sections instr)
           (log_behind d rank made log all values sections instr))
           (log_behind d rank made log all values sections instr)
-      added = last_instr d rank made log all values sections instr r h
+      added = last_instr d rank made log all values sections instr h
 
       fs : List (Figure Polynomials)
       fs = figures_of made
@@ -133,28 +133,27 @@ module _ (d : ℕ) (rank : IsRank d) where
 
   pub run_on_means : (made : List Made) (log : Log) (instrs : List Instr) → AllByRecursion (IsMade d) made
       → log.values ≡ values_of made → AllEndWell d log.objects → log.stop ≡ None → EndsInOne d (measures_of made) instrs
-      → AllByRecursion IsRun instrs
       → Means d (all_figures made instrs) (run_on d log (with_steps d (measures_of made) instrs))
-  run_on_means made log [] all values sections e h r = absurd h
-  run_on_means made log (instr ∷ []) all values sections e h r =
+  run_on_means made log [] all values sections e h = absurd h
+  run_on_means made log (instr ∷ []) all values sections e h =
       subst (Means d (all_figures made (instr ∷ [])))
       (sym (goes_on d log e (instr, (instr_measure d (measures_of made) instr).step) []))
       (subst (λ fs. Means d fs (with_instr d log (instr, (instr_measure d (measures_of made) instr).step)))
       (sym (made-first (instr_figure Variables d) (figures_of made) instr []
       ∙ made-none (instr_figure Variables d) (figures_of made ++ instr_figure Variables d (figures_of made) instr ∷ [])))
-      (last_means made log instr all values sections r.0 h))
-  run_on_means made log (instr ∷ next ∷ instrs) all values sections e h r =
+      (last_means made log instr all values sections h))
+  run_on_means made log (instr ∷ next ∷ instrs) all values sections e h =
       subst (Means d (all_figures made (instr ∷ next ∷ instrs)))
       (sym (goes_on d log e (instr, (instr_measure d (measures_of made) instr).step)
       (with_steps d (measures_of made ++ instr_measure d (measures_of made) instr ∷ []) (next ∷ instrs))))
       (by_stop new.stop refl
-      (λ x log all values sections e h. run_on_means (made ++ x ∷ []) log (next ∷ instrs) all values sections e h r.1))
+      (λ x log all values sections e h. run_on_means (made ++ x ∷ []) log (next ∷ instrs) all values sections e h))
     where
       new : Log
       new = with_instr d log (instr, (instr_measure d (measures_of made) instr).step)
 
       added : Adds d log (λ v. IsMade d (made_of d rank made log all values sections instr v)) new
-      added = inner_instr d rank made log all values sections instr r.0 h.0
+      added = inner_instr d rank made log all values sections instr h.0
 
       x : Made
       x = made_of d rank made log all values sections instr added.value
@@ -197,7 +196,7 @@ length-new f before (instr ∷ instrs) =
 
 pub run_means : RunMeans
 unfolding run_of
-run_means budget p r = record {
+run_means budget p = record {
   sections = means.sections;
   values = λ e n l.
       let f = means.finishes e in
@@ -234,7 +233,7 @@ run_means budget p r = record {
         subst (λ (ns : List ℕ). Means p.rank (all_figures-of p) (run_on p.rank (at_start budget) (zip p.instrs ns)))
         (sym (p.formed.stepped ∙ ap (λ (ms : List Measure). map (λ m. m.step) ms)
         (made-new (instr_measure p.rank) [] p.instrs)))
-        (run_on_means p.rank p.formed.rank [] (at_start budget) p.instrs tt refl tt refl p.formed.each r)
+        (run_on_means p.rank p.formed.rank [] (at_start budget) p.instrs tt refl tt refl p.formed.each)
 
 -- ---- the end of the last section
 

@@ -19,12 +19,12 @@ use Rattle.cayley_terms.specs.declared.instr.Instr.TheVariants.{Free, Join, Meet
 use Rattle.cayley_terms.specs.declared.program.Program.{Program}
 use Rattle.cayley_terms.specs.Instrs.{no_measure, instr_measure, join_measure, meet_measure, on_measure}
 use Rattle.cayley_terms.specs.Programs.{NamesEarlier, EndsInOne, IsInner, IsLast}
-use Rattle.cayley_run.specs.Runs.{Log, at_start, with_instr, IsRun}
+use Rattle.cayley_run.specs.Runs.{Log, at_start, with_instr}
 use Rattle.cayley_run.specs.RunLaws.{AllEndWell}
 use Rattle.cayley_run.specs.Bounds.{HasNumbers, IsKeyWithin, IsPolynomialWithin, object_measures}
-use Rattle.cayley_run.specs.Ready.{AreSmall, IsOperand, step_at, Makes, IsReady}
+use Rattle.cayley_run.specs.Ready.{AreSmall, IsOperand, IsPoint, step_at, Makes, IsReady}
 use Rattle.cayley_run.proofs.InstrLaws.{Made, measures_of, values_of, IsMade, Adds, made_of, inner_instr}
-use Rattle.cayley_run.proofs.KeyBounds.{IsEntryWithin, IsProductWithin, joins_within, meets_within, mixed_within}
+use Rattle.cayley_run.proofs.KeyBounds.{IsEntryWithin, IsProductWithin, joins_within, meets_within, mixed_within, conic_within}
 use Rattle.cayley_run.proofs.Operands.{IsSmall}
 use Rattle.cayley_run.proofs.RunBounds.{Fits, inner_fits, last_fits, IsMadeWithin, GrowsByOne, at, is_at, within_at, sized_at}
 use Rattle.cayley_run.proofs.RunBounds.{instr_within}
@@ -63,7 +63,6 @@ pub record IsOnWay (d : ℕ) (log : Log) (steps : List ℕ) (instrs : List Instr
   pub sections : AllEndWell d log.objects
   pub stepped : steps ≡ map (λ x. x.measure.step) made
   pub ends : EndsInOne d (measures_of made) instrs
-  pub runs : AllByRecursion IsRun instrs
   pub numbers : AllByRecursion (HasNumbers 200 64) instrs
   pub rest : later ≡ map (λ m. m.step) (new_behind (instr_measure d) (measures_of made) instrs)
   pub few : length log.objects ≤ length made
@@ -122,10 +121,19 @@ module _ (d : ℕ) (rank : IsRank d) (log : Log) (steps : List ℕ) (instr : Ins
         below = subst (λ n. n < d) (sym e) x.below;
       }
 
-  makes : (i : Instr) → IsRun i → IsNext d (measures_of made) i → step ≡ (instr_measure d (measures_of made) i).step
+  point : (k : ℕ) → k < length (measures_of made) → (there k).measure.step ≡ 1 → IsPoint steps k
+  point k l e =
+      let i = length-steps in
+      let j = length-measures in
+      record { earlier = omega arith; one = step_there k ∙ e }
+
+  inside : (k : ℕ) → k < length (measures_of made) → IsMadeWithin 200 64 (there k)
+  inside k l = within_at 200 64 d rank made log w.all w.within w.values k l
+
+  makes : (i : Instr) → IsNext d (measures_of made) i → step ≡ (instr_measure d (measures_of made) i).step
       → Makes d steps log i step
-  makes (Free i) r n e = e
-  makes (Join a b) r n e = record {
+  makes (Free i) n e = e
+  makes (Join a b) n e = record {
     pair = record {
       first = operand a n.earlier.0;
       second = operand b n.earlier.1.0;
@@ -139,7 +147,7 @@ module _ (d : ℕ) (rank : IsRank d) (log : Log) (steps : List ℕ) (instr : Ins
     few = subst (λ k. k ≤ d) (sym (ap₂ ◌+◌ (step_there a) (step_there b))) n.fits;
     step = e ∙ sym (ap₂ ◌+◌ (step_there a) (step_there b));
   }
-  makes (Meet a b) r n e = record {
+  makes (Meet a b) n e = record {
     pair = record {
       first = operand a n.earlier.0;
       second = operand b n.earlier.1.0;
@@ -153,7 +161,7 @@ module _ (d : ℕ) (rank : IsRank d) (log : Log) (steps : List ℕ) (instr : Ins
     many = subst (λ k. d ≤ k) (sym (ap₂ ◌+◌ (step_there a) (step_there b))) n.fits;
     step = e ∙ sym (ap₂ (λ i j. i + j - d) (step_there a) (step_there b));
   }
-  makes (On a b s t) r n e = record {
+  makes (On a b s t) n e = record {
     pair = record {
       first = operand a n.earlier.0;
       second = operand b n.earlier.1.0;
@@ -170,7 +178,32 @@ module _ (d : ℕ) (rank : IsRank d) (log : Log) (steps : List ℕ) (instr : Ins
     second_parameter = n.fits.3;
     step = e;
   }
-  makes (Conic p1 p2 p3 p4 p5 p6) r n e = absurd r
+  makes (Conic p1 p2 p3 p4 p5 p6) n e =
+      let l = n.earlier in
+      let t = n.fits.1 in
+      record {
+        rank = n.fits.0;
+        points = (
+          point p1 l.0 t.0,
+          (
+            point p2 l.1.0 t.1.0,
+            (
+              point p3 l.1.1.0 t.1.1.0,
+              (
+                point p4 l.1.1.1.0 t.1.1.1.0,
+                (point p5 l.1.1.1.1.0 t.1.1.1.1.0, (point p6 l.1.1.1.1.1.0 t.1.1.1.1.1.0, tt)),
+              ),
+            ),
+          ),
+        );
+        small = λ start same.
+            degree_small 200 64 (instr_measure d (measures_of made) (Conic p1 p2 p3 p4 p5 p6)) start.sum n.degree
+            (conic_within 200 64 (there p1).measure (there p2).measure (there p3).measure (there p4).measure
+            (there p5).measure (there p6).measure (there p1).value (there p2).value (there p3).value (there p4).value
+            (there p5).value (there p6).value (inside p1 l.0) (inside p2 l.1.0) (inside p3 l.1.1.0) (inside p4 l.1.1.1.0)
+            (inside p5 l.1.1.1.1.0) (inside p6 l.1.1.1.1.1.0) start same);
+        step = e;
+      }
 
   -- the next instruction can be run
   pub is_ready : IsReady d steps log instr step
@@ -182,7 +215,7 @@ module _ (d : ℕ) (rank : IsRank d) (log : Log) (steps : List ℕ) (instr : Ins
         (all_map (λ x. (x.measure.degree ≤ 1000) × IsMadeWithin 200 64 x) IsSmall (λ x. x.value)
         (λ x h. value_small 200 64 x h.0 h.1) made
         (all_both (λ x. x.measure.degree ≤ 1000) (IsMadeWithin 200 64) made w.degrees w.within));
-    makes = makes instr w.runs.0 next here;
+    makes = makes instr next here;
   }
 
 -- ---- one instruction further
@@ -203,14 +236,14 @@ module _ (d : ℕ) (rank : IsRank d) (log : Log) (steps : List ℕ) (instr next 
   new = with_instr d log (instr, size.step)
 
   added : Adds d log (λ v. IsMade d (made_of d rank w.made log w.all w.values w.sections instr v)) new
-  added = inner_instr d rank w.made log w.all w.values w.sections instr w.runs.0 w.ends.0
+  added = inner_instr d rank w.made log w.all w.values w.sections instr w.ends.0
 
   abbrev x : Made
   x = made_of d rank w.made log w.all w.values w.sections instr added.value
 
   one : GrowsByOne 200 64 log instr size new
   one =
-      instr_within 200 64 d rank w.made log w.all w.within w.values instr w.runs.0 w.numbers.0 w.ends.0.earlier
+      instr_within 200 64 d rank w.made log w.all w.within w.values instr w.numbers.0 w.ends.0.earlier
       (inner_fits d (measures_of w.made) instr w.ends.0)
 
   abbrev made_new : List Made
@@ -244,7 +277,6 @@ module _ (d : ℕ) (rank : IsRank d) (log : Log) (steps : List ℕ) (instr next 
         ap (λ (ns : List ℕ). ns ++ size.step ∷ []) w.stepped
         ∙ sym (map-append (λ (y : Made). y.measure.step) w.made (x ∷ []));
     ends = subst (λ (ms : List Measure). EndsInOne d ms (next ∷ instrs)) (sym measures-new) w.ends.1;
-    runs = w.runs.1;
     numbers = w.numbers.1;
     rest =
         ap (λ (ns : List ℕ). drop_first ns) w.rest
@@ -271,29 +303,29 @@ module _ (d : ℕ) (rank : IsRank d) (log : Log) (steps : List ℕ) (instr next 
 -- ---- the beginning
 
 numbers_of : (d : ℕ) (before : List Measure) (instrs : List Instr) → EndsInOne d before instrs
-    → AllByRecursion IsRun instrs → AllByRecursion (HasNumbers 200 64) instrs
-numbers_of d before [] h r = tt
-numbers_of d before (instr ∷ []) h r = (last_number instr h r.0, tt)
+    → AllByRecursion (HasNumbers 200 64) instrs
+numbers_of d before [] h = tt
+numbers_of d before (instr ∷ []) h = (last_number instr h, tt)
   where
-    last_number : (i : Instr) → IsLast d before i → IsRun i → HasNumbers 200 64 i
-    last_number (Free i) h r = absurd h.steps
-    last_number (Join a b) h r = tt
-    last_number (Meet a b) h r = tt
-    last_number (On a b s t) h r = absurd h.steps
-    last_number (Conic p1 p2 p3 p4 p5 p6) h r = absurd r
-numbers_of d before (instr ∷ next ∷ instrs) h r =
-    (number instr h.0 r.0, numbers_of d (before ++ instr_measure d before instr ∷ []) (next ∷ instrs) h.1 r.1)
+    last_number : (i : Instr) → IsLast d before i → HasNumbers 200 64 i
+    last_number (Free i) h = absurd h.steps
+    last_number (Join a b) h = tt
+    last_number (Meet a b) h = tt
+    last_number (On a b s t) h = absurd h.steps
+    last_number (Conic p1 p2 p3 p4 p5 p6) h = tt
+numbers_of d before (instr ∷ next ∷ instrs) h =
+    (number instr h.0, numbers_of d (before ++ instr_measure d before instr ∷ []) (next ∷ instrs) h.1)
   where
-    number : (i : Instr) → IsInner d before i → IsRun i → HasNumbers 200 64 i
-    number (Free i) h r = h.steps
-    number (Join a b) h r = tt
-    number (Meet a b) h r = tt
-    number (On a b s t) h r = (h.steps.2, h.steps.3)
-    number (Conic p1 p2 p3 p4 p5 p6) h r = absurd r
+    number : (i : Instr) → IsInner d before i → HasNumbers 200 64 i
+    number (Free i) h = h.steps
+    number (Join a b) h = tt
+    number (Meet a b) h = tt
+    number (On a b s t) h = (h.steps.2, h.steps.3)
+    number (Conic p1 p2 p3 p4 p5 p6) h = absurd h.steps
 
-pub begins : (budget : ℕ) (p : Program) → AllByRecursion IsRun p.instrs
+pub begins : (budget : ℕ) (p : Program)
     → IsOnWay p.rank (at_start budget) [] p.instrs p.steps
-begins budget p r = record {
+begins budget p = record {
   made = [];
   all = tt;
   within = tt;
@@ -302,8 +334,7 @@ begins budget p r = record {
   sections = tt;
   stepped = refl;
   ends = p.formed.each;
-  runs = r;
-  numbers = numbers_of p.rank [] p.instrs p.formed.each r;
+  numbers = numbers_of p.rank [] p.instrs p.formed.each;
   rest =
       p.formed.stepped ∙ ap (λ (ms : List Measure). map (λ m. m.step) ms) (made-new (instr_measure p.rank) [] p.instrs);
   few = omega arith;

@@ -2,7 +2,6 @@
 use Rattle.std.proofs.Common.{◌≡◌, ℕ, ◌+◌, ◌<◌, ◌≤◌, List, [], ◌∷◌, ◌++◌, map, zip, drop, length, get_or, refl, sym, ap, subst, ◌∙◌}
 use Rattle.std.proofs.Common.{arith}
 use Rattle.std.specs.Prelude.{Some, None}
-use Rattle.std.specs.List.{AllByRecursion}
 use Rattle.std.proofs.Math.ListN.{drop_of_length-le}
 use Rattle.std.proofs.lemmas.List.{drop_more, length-map}
 use Rattle.step_types.specs.declared.measure.Measure.{Measure}
@@ -11,7 +10,7 @@ use Rattle.cayley_terms.specs.declared.instr.Instr.{Instr}
 use Rattle.cayley_terms.specs.declared.instr.Instr.TheVariants.{Free}
 use Rattle.cayley_terms.specs.declared.program.Program.{Program}
 use Rattle.cayley_terms.specs.Instrs.{instr_measure}
-use Rattle.cayley_run.specs.Runs.{Log, at_start, with_instr, run_on, run_of, IsRun}
+use Rattle.cayley_run.specs.Runs.{Log, at_start, with_instr, run_on, run_of}
 use Rattle.cayley_run.specs.Ready.{IsReady}
 use Rattle.cayley_run.proofs.RunMeaning.{made-new, length-new, stopped, goes_on}
 use Rattle.cayley_run.proofs.RunReady.{IsOnWay, is_ready, goes_further, begins}
@@ -36,14 +35,14 @@ from_start : (budget : ℕ) (p : Program) → run_of budget p ≡ run_on p.rank 
 unfolding run_of
 from_start budget p = refl
 
-pub run_begins : (budget : ℕ) (p : Program) (log : Log) (steps : List ℕ) → AllByRecursion IsRun p.instrs
+pub run_begins : (budget : ℕ) (p : Program) (log : Log) (steps : List ℕ)
     → log ≡ at_start budget → steps ≡ [] → IsRunFrom budget p log steps p.instrs p.steps
-run_begins budget p log steps r e f =
+run_begins budget p log steps e f =
     subst (λ l. IsRunFrom budget p l steps p.instrs p.steps) (sym e)
     (subst (λ ns. IsRunFrom budget p (at_start budget) ns p.instrs p.steps) (sym f)
     (record {
       same = from_start budget p;
-      way = way_of p.rank (at_start budget) [] p.instrs p.steps (begins budget p r);
+      way = way_of p.rank (at_start budget) [] p.instrs p.steps (begins budget p);
       running = refl;
     }))
 

@@ -17,15 +17,16 @@ use Rattle.coordinate_model.proofs.Ranks.{by_rank}
 use Rattle.bracket_terms.specs.declared.extensor.Extensor.{Extensor}
 use Rattle.bracket_terms.specs.Joins.{points_of}
 use Rattle.bracket_poly.specs.Kept.{TrackedOf}
-use Rattle.bracket_poly.specs.Sections.{Rewritten}
+use Rattle.bracket_poly.specs.Sections.{Rewritten, entry_from, value_from}
 use Rattle.bracket_poly.specs.Tracked.{nothing, plus_term}
 use Rattle.bracket_poly.specs.Values.{IsValue, entry_of, value_of, extensor_size}
 use Rattle.cayley_terms.specs.Starts.{one_of}
 use Rattle.straightening.specs.Runs.{Run, Stop, run}
-use Rattle.cayley_run.specs.Sections.{Start, rewritten, Sections, in_front, run_starts, entry_from, value_from}
+use Rattle.cayley_run.specs.Sections.{rewritten, Sections, in_front, run_starts}
+use Rattle.shuffle_meet.specs.Stops.{Start}
 use Rattle.cayley_run.specs.Ready.{AreSections, start_entry}
 use Rattle.cayley_run.specs.Seen.{starts_of}
-use Rattle.cayley_run.proofs.StartSums.{entries_at}
+use Rattle.shuffle_meet.proofs.StartSums.{entries_at}
 
 -- ---- the value that sections end with
 

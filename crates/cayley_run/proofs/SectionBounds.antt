@@ -13,20 +13,20 @@ use Rattle.coordinate_model.proofs.Splits.{all_so, all_both, all_map, all_filter
 use Rattle.coordinate_model.proofs.StartKeys.{keys-start}
 use Rattle.coordinate_model.proofs.StartSizes.{all_reached}
 use Rattle.step_types.specs.declared.measure.Measure.{Measure}
-use Rattle.bracket_poly.specs.Sections.{Rewritten}
+use Rattle.bracket_poly.specs.Sections.{Rewritten, value_from}
 use Rattle.bracket_poly.specs.Tracked.{Tracked, nothing}
-use Rattle.shuffle_meet.specs.Stops.{tracked_at, tracked_entries}
+use Rattle.shuffle_meet.specs.Stops.{tracked_at, tracked_entries, Start}
 use Rattle.straightening.specs.Runs.{Stop, run}
 use Rattle.straightening.specs.RunLaws.{HasLike, use_points}
 use Rattle.straightening.proofs.Rewritings.{sizes, rest_rows}
 use Rattle.straightening.proofs.RunLemmas.{by_turns, formed_after, run_ends_well, run_keeps_classes}
 use Rattle.straightening.proofs.TermLists.{holds_of_term}
 use Rattle.straightening.proofs.TurnLaws.{Taken, taken}
-use Rattle.cayley_run.specs.Sections.{Start, is_conclusion, section_starts, rewritten, run_starts}
-use Rattle.cayley_run.specs.Sections.{value_from}
+use Rattle.cayley_run.specs.Sections.{rewritten, run_starts}
+use Rattle.shuffle_meet.specs.SectionStarts.{is_conclusion, section_starts}
 use Rattle.cayley_run.specs.Bounds.{ArePoints, IsKeyWithin, IsPolynomialWithin, IsUseWithin, IsSectionWithin}
 use Rattle.cayley_run.proofs.KeyBounds.{IsEntryWithin, IsProductWithin, key_within, use_within}
-use Rattle.cayley_run.proofs.StartSums.{entry_at, tracked_sum}
+use Rattle.shuffle_meet.proofs.StartSums.{entry_at, tracked_sum}
 use Rattle.cayley_run.proofs.SectionLaws.{IsStart, starts_by}
 
 -- ---- the uses of a run

@@ -13,12 +13,13 @@ use Rattle.coordinate_model.proofs.Splits.{all_filter}
 use Rattle.coordinate_model.proofs.StartLaws.{zero_entries}
 use Rattle.coordinate_model.proofs.StartSizes.{IsEntry}
 use Rattle.coordinate_model.proofs.ValueLaws.{free, coordinates-more}
-use Rattle.bracket_poly.specs.Sections.{Rewritten}
+use Rattle.bracket_poly.specs.Sections.{Rewritten, entry_from, value_from}
 use Rattle.straightening.specs.Runs.{Run, Stop, run}
 use Rattle.straightening.proofs.RunLemmas.{run_keeps_value, run_ends_well}
-use Rattle.cayley_run.specs.Sections.{Start, rewritten, Sections, in_front, run_starts, entry_from, value_from}
+use Rattle.cayley_run.specs.Sections.{rewritten, Sections, in_front, run_starts}
+use Rattle.shuffle_meet.specs.Stops.{Start}
 use Rattle.cayley_run.specs.RunLaws.{IsEndOf, EndsWell}
-use Rattle.cayley_run.proofs.StartSums.{entry_at, entries_at}
+use Rattle.shuffle_meet.proofs.StartSums.{entry_at, entries_at}
 
 -- the section ends with a normal polynomial of the value of the start
 pub record IsEnded (d : ℕ) (start : Start) (s : Rewritten) : Type 0 where

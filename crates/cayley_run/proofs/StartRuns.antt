@@ -10,7 +10,8 @@ use Rattle.bracket_poly.specs.Sections.{Rewritten}
 use Rattle.bracket_poly.specs.Tracked.{Tracked, Limit, plus_terms, first_limit}
 use Rattle.straightening.specs.Runs.{Run, Stop, turns_stop, limit_stop, ended, after_use, run}
 use Rattle.straightening.specs.Turns.{turn}
-use Rattle.cayley_run.specs.Sections.{Start, rewritten, Sections, in_front, run_starts}
+use Rattle.cayley_run.specs.Sections.{rewritten, Sections, in_front, run_starts}
+use Rattle.shuffle_meet.specs.Stops.{Start}
 use Rattle.cayley_run.specs.Ready.{AreSmall}
 use Rattle.cayley_run.specs.Seen.{starts_of}
 

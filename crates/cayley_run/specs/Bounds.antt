@@ -1,5 +1,5 @@
--- How large a run grows: its points and parameters are those of the program, and its rows and exponents are at most those
--- of the object that is worked out.
+-- How large a run grows: its points and parameters are those of the program, and its rows and exponents are at most
+-- those of the object that is worked out.
 use Rattle.std.specs.Prelude.{◌≡◌, ℕ, ◌+◌, ◌<◌, ◌≤◌, List, [], ◌∷◌, length, slice_index, IfSome}
 use Rattle.std.specs.List.{AllByRecursion}
 use Rattle.coordinate_model.specs.Key.{Key}
@@ -12,7 +12,7 @@ use Rattle.cayley_terms.specs.declared.instr.Instr.{Instr}
 use Rattle.cayley_terms.specs.declared.instr.Instr.TheVariants.{Free, Join, Meet, On, Conic}
 use Rattle.cayley_terms.specs.declared.program.Program.{Program}
 use Rattle.cayley_terms.specs.Instrs.{measures}
-use Rattle.cayley_run.specs.Runs.{Log, run_of, IsRun}
+use Rattle.cayley_run.specs.Runs.{Log, run_of}
 
 -- the instruction has free points below n and parameters below m alone
 abbrev pub HasNumbers : ℕ → ℕ → Instr → Type 0
@@ -80,4 +80,4 @@ IsWithinProgram p log =
 
 -- the run of a program is within it
 abbrev pub RunIsWithin : Type 0
-RunIsWithin = (budget : ℕ) (p : Program) → AllByRecursion IsRun p.instrs → IsWithinProgram p (run_of budget p)
+RunIsWithin = (budget : ℕ) (p : Program) → IsWithinProgram p (run_of budget p)

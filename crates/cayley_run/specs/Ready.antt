@@ -1,19 +1,20 @@
 -- What must hold before an instruction is run: of the values so far, of their steps, and of its starts.
-use Rattle.std.specs.Prelude.{◌≡◌, ℕ, ◌+◌, ◌-◌, ◌^◌, ◌<◌, ◌≤◌, T, List, map, length, slice_index_or}
+use Rattle.std.specs.Prelude.{◌≡◌, ℕ, Ok, [], ◌∷◌, ◌+◌, ◌-◌, ◌^◌, ◌<◌, ◌≤◌, T, List, map, length, slice_index_or}
 use Rattle.std.specs.FinMap.{is_sorted}
 use Rattle.std.specs.List.{AllByRecursion}
 use Rattle.coordinate_model.specs.Key.{row_cmp}
 use Rattle.coordinate_model.specs.Starts.{Entry, Product}
 use Rattle.bracket_poly.specs.Products.{HasDegree}
 use Rattle.bracket_poly.specs.Sections.{Rewritten}
+use Rattle.bracket_poly.specs.Tracked.{Tracked}
 use Rattle.bracket_poly.specs.Values.{extensor_size}
 use Rattle.cayley_terms.specs.declared.instr.Instr.{Instr}
 use Rattle.cayley_terms.specs.declared.instr.Instr.TheVariants.{Free, Join, Meet, On, Conic}
 use Rattle.cayley_terms.specs.Starts.{products_of}
 use Rattle.cayley_terms.specs.Starts as operation
-use Rattle.shuffle_meet.specs.Stops.{tracked_entries}
-use Rattle.cayley_run.specs.Sections.{Start}
-use Rattle.cayley_run.specs.Runs.{Log}
+use Rattle.conic_points.specs.Makings.{made_of}
+use Rattle.shuffle_meet.specs.Stops.{tracked_entries, Start}
+use Rattle.cayley_run.specs.Runs.{Log, value_at}
 
 -- no exponent of the starts passes 1,000
 abbrev pub AreSmall : List Start → Type 0
@@ -56,13 +57,25 @@ pub record IsMixed (d : ℕ) (steps : List ℕ) (log : Log) (a b s t made : ℕ)
   pub second_parameter : t < 64
   pub step : made ≡ 1
 
+-- a point of this number
+pub record IsPoint (steps : List ℕ) (n : ℕ) : Type 0 where
+  pub earlier : n < length steps
+  pub one : step_at steps n ≡ 1
+
+-- six points of rank 3, of which the six-point polynomial has no exponent above 1,000
+pub record IsConic (d : ℕ) (steps : List ℕ) (log : Log) (six : List ℕ) (made : ℕ) : Type 0 where
+  pub rank : d ≡ 3
+  pub points : AllByRecursion (IsPoint steps) six
+  pub small : (start : Tracked) → made_of (map (value_at log) six) ≡ Ok start → HasDegree 1000 start.sum
+  pub step : made ≡ 0
+
 -- the instruction makes something of this step
 abbrev pub Makes : ℕ → List ℕ → Log → Instr → ℕ → Type 0
 Makes d steps log (Free i) step = step ≡ 1
 Makes d steps log (Join a b) step = IsJoin d steps log a b step
 Makes d steps log (Meet a b) step = IsMeet d steps log a b step
 Makes d steps log (On a b s t) step = IsMixed d steps log a b s t step
-Makes d steps log (Conic p1 p2 p3 p4 p5 p6) step = ⊥
+Makes d steps log (Conic p1 p2 p3 p4 p5 p6) step = IsConic d steps log (p1 ∷ p2 ∷ p3 ∷ p4 ∷ p5 ∷ p6 ∷ []) step
 
 -- the instruction can be run behind values of these steps
 pub record IsReady (d : ℕ) (steps : List ℕ) (log : Log) (instr : Instr) (step : ℕ) : Type 0 where

@@ -9,7 +9,7 @@ use Rattle.bracket_poly.specs.Sections.{Rewritten, Worked}
 use Rattle.cayley_terms.specs.declared.program.Program.{Program}
 use Rattle.cayley_terms.specs.Figures.{Figure, no_figure}
 use Rattle.cayley_terms.specs.Kept.{objects, polynomial_of}
-use Rattle.cayley_run.specs.Runs.{Log, run_of, IsRun}
+use Rattle.cayley_run.specs.Runs.{Log, run_of}
 
 -- the polynomial is normal, and has the value of the start
 pub record IsEndOf (d : ℕ) (start end : BracketPolynomial) : Type 0 where
@@ -37,7 +37,7 @@ pub record LastEnds (log : Log) (end : BracketPolynomial) : Type 0 where
   pub last : log.objects ≡ front ++ record { number = number; step = step; sections = section ∷ [] } ∷ []
   pub ends : section.end ≡ Some end
 
--- what a run of a program of the forms that are run means: each section ends well; where nothing stopped it, the value of
+-- what a run of a program means: each section ends well; where nothing stopped it, the value of
 -- each instruction has the coordinates of its object, and the last section, the only one of the conclusion, ends with a
 -- polynomial whose value is the conclusion's
 pub record MeansProgram (p : Program) (log : Log) : Type 0 where
@@ -48,4 +48,4 @@ pub record MeansProgram (p : Program) (log : Log) : Type 0 where
       → (end : BracketPolynomial) × LastEnds log end × (value end ≡ polynomial_of p)
 
 abbrev pub RunMeans : Type 0
-RunMeans = (budget : ℕ) (p : Program) → AllByRecursion IsRun p.instrs → MeansProgram p (run_of budget p)
+RunMeans = (budget : ℕ) (p : Program) → MeansProgram p (run_of budget p)

@@ -1,19 +1,23 @@
 -- The run of a program: each object from the values of earlier ones, until all are worked out or a limit is passed.
-use Rattle.std.specs.Prelude.{ℕ, ◌+◌, List, [], ◌∷◌, ◌++◌, zip, length, slice_index_or, Option, Some, None}
+use Rattle.std.specs.Prelude.{ℕ, ◌+◌, List, [], ◌∷◌, ◌++◌, map, zip, length, slice_index_or}
+use Rattle.std.specs.Prelude.{Option, Some, None, Result, Ok, Err}
 use Rattle.coordinate_model.specs.Value.{Value}
 use Rattle.coordinate_model.specs.Starts.{Product}
-use Rattle.bracket_poly.specs.Sections.{Worked}
+use Rattle.bracket_poly.specs.Sections.{Worked, value_from}
+use Rattle.bracket_poly.specs.Tracked.{Tracked, Limit}
+use Rattle.conic_points.specs.Makings.{made_of}
 use Rattle.cayley_terms.specs.declared.instr.Instr.{Instr}
 use Rattle.cayley_terms.specs.declared.instr.Instr.TheVariants.{Free, Join, Meet, On, Conic}
 use Rattle.cayley_terms.specs.declared.program.Program.{Program}
 use Rattle.cayley_terms.specs.Starts.{products_of, free_value}
 use Rattle.cayley_terms.specs.Starts as operation
-use Rattle.shuffle_meet.specs.Stops.{first_stop}
+use Rattle.shuffle_meet.specs.Stops.{first_stop, Start}
 use Rattle.straightening.specs.Runs.{Stop, limit_stop}
-use Rattle.cayley_run.specs.Sections.{Sections, section_starts, run_starts, value_from}
+use Rattle.cayley_run.specs.Sections.{Sections, run_starts}
+use Rattle.shuffle_meet.specs.SectionStarts.{section_starts}
 
--- what a run has done: the value of each instruction, the objects that were worked out, the turns that are left, and what
--- stopped it, if anything did
+-- what a run has done: the value of each instruction, the objects that were worked out, the turns that are left, and
+-- what stopped it, if anything did
 pub record Log : Type 0 where
   pub values : List Value
   pub objects : List Worked
@@ -41,13 +45,29 @@ with_sections step log s = record {
   stop = s.stop;
 }
 
--- with an object of this step in rank d more, that adds these products: where none of them passes a limit, its starts are
--- made normal
+-- with an object of this step more, before whose sections the run stopped so
+abbrev pub with_stop : ℕ → Stop → Log → Log
+with_stop step stop log = with_sections step log (record { sections = []; left = log.left; stop = Some stop })
+
+-- with an object of this step more, and the sections of these starts
+abbrev pub with_starts : ℕ → List Start → Log → Log
+with_starts step starts log = with_sections step log (run_starts log.left starts)
+
+-- with an object of this step in rank d more, that adds these products, unless one of them passes a limit
 abbrev pub with_object : ℕ → ℕ → List Product → Log → Log
 with_object d step ps log = elim (first_stop [] ps) [
-  | Some limit ↦ with_sections step log (record { sections = []; left = log.left; stop = Some (limit_stop limit) })
-  | None ↦ with_sections step log (run_starts log.left (section_starts d step ps))
+  | Some limit ↦ with_stop step (limit_stop limit) log
+  | None ↦ with_starts step (section_starts d step ps) log
 ]
+
+-- with a conclusion of this step more, of a start that is made so, unless that passes a limit
+abbrev pub with_start : ℕ → Result Tracked Limit → Log → Log
+with_start step (Err limit) log = with_stop step (limit_stop limit) log
+with_start step (Ok start) log = with_starts step (([], start) ∷ []) log
+
+-- with the conclusion of this step more that the six points of these numbers are on a conic
+abbrev pub with_conic : ℕ → List ℕ → Log → Log
+with_conic step six log = with_start step (made_of (map (value_at log) six)) log
 
 -- with one instruction more, of this step
 abbrev pub with_instr : ℕ → Log → Instr × ℕ → Log
@@ -55,7 +75,7 @@ with_instr d log (Free i, step) = with_free i log
 with_instr d log (Join a b, step) = with_object d step (products_of operation.Join d log.values a b) log
 with_instr d log (Meet a b, step) = with_object d step (products_of operation.Meet d log.values a b) log
 with_instr d log (On a b s t, step) = with_object d step (products_of (operation.On s t) d log.values a b) log
-with_instr d log (Conic p1 p2 p3 p4 p5 p6, step) = log
+with_instr d log (Conic p1 p2 p3 p4 p5 p6, step) = with_conic step (p1 ∷ p2 ∷ p3 ∷ p4 ∷ p5 ∷ p6 ∷ []) log
 
 -- the run goes on with these instructions, each with its step, unless it has stopped
 abbrev pub run_on : ℕ → Log → List (Instr × ℕ) → Log
@@ -65,11 +85,3 @@ run_on d log (instr ∷ instrs) = elim log.stop [ Some stop ↦ log | None ↦ r
 -- the run of a program with so many turns
 unfoldable pub run_of : ℕ → Program → Log
 run_of budget p = run_on p.rank (at_start budget) (zip p.instrs p.steps)
-
--- whether the instruction is of a form that is run so far
-abbrev pub IsRun : Instr → Type 0
-IsRun (Free i) = Unit {0}
-IsRun (Join a b) = Unit {0}
-IsRun (Meet a b) = Unit {0}
-IsRun (On a b s t) = Unit {0}
-IsRun (Conic p1 p2 p3 p4 p5 p6) = ⊥

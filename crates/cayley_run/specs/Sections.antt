@@ -1,29 +1,9 @@
 -- The sections of an object: each of its starts made normal by turns, one after another within one budget.
-use Rattle.std.specs.Prelude.{ℕ, ◌-◌, Bool, ◌==◌, ◌||◌, List, [], ◌∷◌, filter_map, length}
-use Rattle.std.specs.Prelude.{Option, Some, None, if◌then◌else◌}
+use Rattle.std.specs.Prelude.{ℕ, ◌-◌, List, [], ◌∷◌, length, Option, Some, None}
 use Rattle.coordinate_model.specs.BracketPolynomial.{BracketPolynomial}
-use Rattle.coordinate_model.specs.Starts.{Product, Entry, has_term}
-use Rattle.coordinate_model.specs.Value.{Value}
-use Rattle.bracket_poly.specs.Tracked.{Tracked, nothing}
 use Rattle.bracket_poly.specs.Sections.{Rewritten}
-use Rattle.shuffle_meet.specs.Stops.{tracked_entries}
+use Rattle.shuffle_meet.specs.Stops.{Start}
 use Rattle.straightening.specs.Runs.{Run, Stop, run}
-
--- a start: an extensor with its polynomial and the keys that it has met
-abbrev pub Start : Type 0
-Start = List ℕ × Tracked
-
--- whether a step is that of a conclusion: 0 or the rank
-abbrev pub is_conclusion : ℕ → ℕ → Bool
-is_conclusion d step = step == 0 || step == d
-
--- the starts that make sections, of an object of this step in rank d that adds these products: those with a term; and of
--- a conclusion always one, which is zero where none has a term
-abbrev pub section_starts : ℕ → ℕ → List Product → List Start
-section_starts d step ps = elim (tracked_entries ps) [
-  | [] ↦ if is_conclusion d step then ([], nothing) ∷ [] else []
-  | start ∷ others ↦ start ∷ others
-]
 
 -- the last polynomial of a run, unless it stopped
 abbrev pub end_of : Run → Option BracketPolynomial
@@ -54,14 +34,3 @@ run_starts budget (start ∷ starts) =
       | Some stop ↦ record { sections = rewritten start r ∷ []; left = left; stop = Some stop }
       | None ↦ in_front (rewritten start r) (run_starts left starts)
     ]
-
--- the entry that a section ends with, where that has a term
-abbrev pub entry_from : Rewritten → Option Entry
-entry_from s = elim s.end [
-  | None ↦ None
-  | Some polynomial ↦ if has_term (s.scalar, polynomial) then Some (s.scalar, polynomial) else None
-]
-
--- the value that sections end with
-abbrev pub value_from : List Rewritten → Value
-value_from sections = filter_map entry_from sections

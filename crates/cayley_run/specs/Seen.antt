@@ -6,7 +6,9 @@ use Rattle.bracket_terms.specs.Joins.{points_of}
 use Rattle.bracket_terms.specs.LogUses.{use_of}
 use Rattle.bracket_poly.specs.Kept.{TrackedOf}
 use Rattle.bracket_poly.specs.Values.{value_of}
+use Rattle.bracket_poly.specs.declared.value.Value.{Value}
 use Rattle.bracket_poly.specs.Sections.{rewritten_of, worked_of}
+use Rattle.shuffle_meet.specs.Stops.{Start}
 use Rattle.straightening.specs.Runs.{Run}
 use Rattle.cayley_run.specs.Results.{stop_of}
 use Rattle.cayley_run.specs.Sections as spec
@@ -16,11 +18,11 @@ use Rattle.cayley_run.specs.declared.sections.Rewriting.{Rewriting}
 use Rattle.cayley_run.specs.declared.progress.Progress.{Progress}
 
 -- a start of the code
-abbrev pub start_of : {d : ℕ} → Extensor × TrackedOf d → spec.Start
+abbrev pub start_of : {d : ℕ} → Extensor × TrackedOf d → Start
 start_of e = (points_of e.0, e.1.tracked)
 
 -- the starts of a value of the code
-abbrev pub starts_of : {d : ℕ} → List (Extensor × TrackedOf d) → List spec.Start
+abbrev pub starts_of : {d : ℕ} → List (Extensor × TrackedOf d) → List Start
 starts_of entries = map start_of entries
 
 -- sections of the code
@@ -47,6 +49,10 @@ log_of p = record {
   stop = option_map stop_of p.stop;
 }
 
--- the steps of its values
+-- the steps of values
+abbrev pub steps_in : {d : ℕ} → List (Value d) → List ℕ
+steps_in vs = map (λ v. v.step) vs
+
+-- the steps of a run's values
 abbrev pub steps_of : {d : ℕ} → Progress d → List ℕ
-steps_of p = map (λ v. v.step) p.values.items
+steps_of p = steps_in p.values.items

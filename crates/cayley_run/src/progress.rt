@@ -1,30 +1,28 @@
 //! How far a run has come.
 
-ghost use Rattle.std.specs.Prelude.{◌≡◌, ◌⊎◌, ◌≤◌, ◌+◌, ◌^◌, ◌<◌, List, [], ◌∷◌, ◌++◌, length, Some, IfOk, OnOk};
+ghost use Rattle.std.specs.Prelude.{◌≡◌, ◌⊎◌, ◌≤◌, ◌+◌, ◌^◌, ◌<◌, [], ◌∷◌, ◌++◌, length, Ok, IfOk, OnOk};
+ghost use Rattle.std.specs.List.{AllByRecursion};
 ghost use Rattle.coordinate_model.specs.Sequences.{IsRank};
-ghost use Rattle.coordinate_model.specs.Starts.{Product};
-ghost use Rattle.bracket_poly.specs.Answers.{AnswersLimit};
-ghost use Rattle.bracket_poly.specs.Tracked.{nothing};
+ghost use Rattle.bracket_poly.specs.Products.{HasDegree};
 ghost use Rattle.shuffle_meet.specs.Seen.{seen};
-ghost use Rattle.shuffle_meet.specs.Stops.{first_stop, tracked_entries};
-ghost use Rattle.cayley_run.specs.Ready.{IsReady, AreSmall, AreSections};
-ghost use Rattle.cayley_run.specs.Results.{stop_of};
-ghost use Rattle.cayley_run.specs.Runs.{at_start, with_instr, with_object, with_sections};
-ghost use Rattle.cayley_run.specs.Sections.{run_starts};
+ghost use Rattle.cayley_run.specs.Ready.{IsReady, IsConic, AreSmall, AreSections};
+ghost use Rattle.cayley_run.specs.Results.{AddsObject, IsKindOf, stop_of};
+ghost use Rattle.cayley_run.specs.Runs.{at_start, with_instr, with_conic, with_start, with_stop, with_sections};
 ghost use Rattle.cayley_run.specs.Seen.{log_of, steps_of, sections_of};
 
 use crate::answer::StopKind;
 use crate::sections::{Sections, run_starts};
-use crate::values::{free_value, value_from};
+use crate::values::{copies, free_value, value_from};
 use bracket_poly::{Items, ObjectLog, Poly, PolyError, Value};
 use bracket_terms::Extensor;
 use cay_base::NoMemory;
 use cayley_terms::Instr;
+use conic_points::conic;
 use shuffle_meet::{join, meet, on};
 use std::alloc::Global;
 
-/// What a run has done: the value of each instruction, the objects that were worked out, the turns that are left, and what
-/// stopped it, if anything did.
+/// What a run has done: the value of each instruction, the objects that were worked out, the turns that are left, and
+/// what stopped it, if anything did.
 #[derive(Drop)]
 pub(crate) struct Progress<const D: usize> {
     alloc: Global,
@@ -86,7 +84,14 @@ impl<const D: usize> Progress<D> {
                 );
                 self.object(step, starts)
             }
-            Instr::Conic { .. } => unreachable!(),
+            Instr::Conic {
+                p1,
+                p2,
+                p3,
+                p4,
+                p5,
+                p6,
+            } => self.conic(step, &[p1, p2, p3, p4, p5, p6]),
         }
     }
 
@@ -97,36 +102,52 @@ impl<const D: usize> Progress<D> {
         requires few { length (log_of self.old).objects + 1 < 2 ^ 32 }
         requires step { IfOk starts (λ value. value.step ≡ step) }
         requires small { IfOk starts (λ value. AreSmall (seen value.entries)) }
-        ensures log { (ps : List Product) → AnswersLimit starts.entry (first_stop [] ps) → IfOk starts.entry (λ value. seen value.entries ≡ tracked_entries ps) → OnOk result (log_of self.new ≡ with_object D step ps (log_of self.old)) }
+        ensures log { AddsObject step starts.entry result (log_of self.old) (log_of self.new) }
         ensures steps { OnOk result (steps_of self.new ≡ steps_of self.old ++ step ∷ []) }
     {
         match starts {
             Ok(value) if value.entries.items().is_empty() && (step == 0 || step as usize == D) => {
-                self.conclusion_of_zero(step)
+                self.conclude(step, Poly::new(self.alloc))
             }
             Ok(value) => {
                 let sections = run_starts(self.alloc, self.left, value.entries.items())?;
                 self.finish(step, sections)
             }
-            Err(PolyError::Coefficient) => self.stop(step, StopKind::Coefficient),
-            Err(PolyError::Keys) => self.stop(step, StopKind::Keys),
-            Err(PolyError::Memory) => Err(NoMemory),
+            Err(error) => self.stop(step, limit_kind(error)?),
         }
     }
 
-    /// The section of a conclusion that is zero from the start.
-    fn conclusion_of_zero(&mut self, step: u8) -> Result<(), NoMemory>
+    /// Works out the claim that six points are on a conic, or stops where their six-point polynomial passes a limit.
+    fn conic(&mut self, step: u8, numbers: &[u32]) -> Result<(), NoMemory>
+        requires rank { IsRank D }
+        requires six { length numbers.now ≡ 6 }
+        requires points { IsConic D (steps_of self.old) (log_of self.old) numbers.now step }
+        requires few { length (log_of self.old).objects + 1 < 2 ^ 32 }
+        requires small { AllByRecursion (λ v. AllByRecursion (λ e. HasDegree 1000 e.1) v) (log_of self.old).values }
+        ensures log { OnOk result (log_of self.new ≡ with_conic step numbers.now (log_of self.old)) }
+        ensures steps { OnOk result (steps_of self.new ≡ steps_of self.old ++ step ∷ []) }
+    {
+        let six = copies(self.alloc, &self.values, numbers)?;
+        match conic(self.alloc, &six) {
+            Ok(start) => self.conclude(step, start),
+            Err(error) => self.stop(step, limit_kind(error)?),
+        }
+    }
+
+    /// The section of a conclusion with this start.
+    fn conclude(&mut self, step: u8, start: Poly<D>) -> Result<(), NoMemory>
         requires rank { IsRank D }
         requires conclusion { (step ≡ 0) ⊎ (step ≡ D) }
         requires few { length (log_of self.old).objects + 1 < 2 ^ 32 }
-        ensures log { OnOk result (log_of self.new ≡ with_sections step (log_of self.old) (run_starts (log_of self.old).left (([], nothing) ∷ []))) }
+        requires small { HasDegree 1000 start.tracked.sum }
+        ensures log { OnOk result (log_of self.new ≡ with_start step (Ok start.entry.tracked) (log_of self.old)) }
         ensures steps { OnOk result (steps_of self.new ≡ steps_of self.old ++ step ∷ []) }
     {
         let none = Extensor {
             size: 0,
             points: [0; 4],
         };
-        let sections = run_starts(self.alloc, self.left, &[(none, Poly::new(self.alloc))])?;
+        let sections = run_starts(self.alloc, self.left, &[(none, start)])?;
         self.finish(step, sections)
     }
 
@@ -135,7 +156,7 @@ impl<const D: usize> Progress<D> {
         requires rank { IsRank D }
         requires within { step ≤ D }
         requires few { length (log_of self.old).objects + 1 < 2 ^ 32 }
-        ensures log { OnOk result (log_of self.new ≡ with_sections step (log_of self.old) (record { sections = []; left = (log_of self.old).left; stop = Some (stop_of kind) })) }
+        ensures log { OnOk result (log_of self.new ≡ with_stop step (stop_of kind) (log_of self.old)) }
         ensures steps { OnOk result (steps_of self.new ≡ steps_of self.old ++ step ∷ []) }
     {
         let sections = Sections {
@@ -171,5 +192,16 @@ impl<const D: usize> Progress<D> {
         self.left = left;
         self.stop = stop;
         Ok(())
+    }
+}
+
+/// The kind of a stop at the limit that was passed.
+fn limit_kind(error: PolyError) -> Result<StopKind, NoMemory>
+    ensures { IfOk result (IsKindOf error) }
+{
+    match error {
+        PolyError::Coefficient => Ok(StopKind::Coefficient),
+        PolyError::Keys => Ok(StopKind::Keys),
+        PolyError::Memory => Err(NoMemory),
     }
 }

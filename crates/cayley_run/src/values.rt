@@ -1,12 +1,14 @@
 //! The values of instructions.
 
-ghost use Rattle.std.specs.Prelude.{◌≡◌, ◌≤◌, IfOk, map};
+ghost use Rattle.std.specs.Prelude.{◌≡◌, ◌≤◌, ◌<◌, IfOk, map, length};
+ghost use Rattle.std.specs.List.{AllByRecursion};
 ghost use Rattle.coordinate_model.specs.Sequences.{IsRank};
-ghost use Rattle.cayley_terms.specs.Starts.{free_value, one_of};
+ghost use Rattle.cayley_terms.specs.Starts.{free_value, one_of, value_at};
 ghost use Rattle.bracket_poly.specs.Values.{value_of};
-ghost use Rattle.bracket_poly.specs.Sections.{rewritten_of};
-ghost use Rattle.cayley_run.specs.Ready.{AreSections};
-ghost use Rattle.cayley_run.specs.Sections.{value_from};
+ghost use Rattle.bracket_poly.specs.Sections.{rewritten_of, value_from};
+ghost use Rattle.conic_points.specs.Points.{values_of};
+ghost use Rattle.cayley_run.specs.Ready.{AreSections, step_at};
+ghost use Rattle.cayley_run.specs.Seen.{steps_in};
 
 use bracket_poly::{Items, Key, Poly, Section, Value};
 use bracket_terms::{Extensor, Params};
@@ -72,4 +74,36 @@ pub(crate) fn value_from<const D: usize>(
         step,
         entries: Items::of(entries),
     })
+}
+
+/// A copy of a value.
+fn copy<const D: usize>(alloc: Global, value: &Value<D>) -> Result<Value<D>, NoMemory>
+    ensures entries { IfOk result (λ copy. copy.entries ≡ value.now.entries) }
+    ensures step { IfOk result (λ copy. copy.step ≡ value.now.step) }
+{
+    let mut entries = Vec::new(alloc);
+    for (extensor, poly) in value.entries.items() {
+        entries.push((*extensor, poly.copy()?))?;
+    }
+    Ok(Value {
+        step: value.step,
+        entries: Items::of(entries),
+    })
+}
+
+/// Copies of the values with these numbers.
+pub(crate) fn copies<const D: usize>(
+    alloc: Global,
+    values: &[Value<D>],
+    numbers: &[u32],
+) -> Result<Vec<Value<D>>, NoMemory>
+    requires { AllByRecursion (λ n. n < length values.now) numbers.now }
+    ensures entries { IfOk result (λ made. values_of made.items ≡ map (value_at (values_of values.now)) numbers.now) }
+    ensures steps { IfOk result (λ made. steps_in made.items ≡ map (step_at (steps_in values.now)) numbers.now) }
+{
+    let mut copies = Vec::new(alloc);
+    for number in numbers {
+        copies.push(copy(alloc, &values[*number as usize])?)?;
+    }
+    Ok(copies)
 }

@@ -1,8 +1,7 @@
 use Rattle.std.proofs.Common.{◌≡◌, ◌∙◌, ap, List, map, drop}
 use Rattle.std.proofs.Math.ListN.{drop_of_length-le}
-use Rattle.bracket_poly.specs.Sections.{rewritten_of, Rewritten}
+use Rattle.bracket_poly.specs.Sections.{rewritten_of, Rewritten, value_from}
 use Rattle.bracket_poly.specs.Values.{value_of}
-use Rattle.cayley_run.specs.Sections.{value_from}
 use Rattle.cayley_run.proofs.Scalars.{value_done, value_formed}
 use Rattle.cayley_run.proofs.values.value_from.Goals as goal
 

@@ -1,7 +1,6 @@
 use Rattle.std.proofs.Common.{◌≡◌, ◌++◌, map, drop}
 use Rattle.bracket_poly.specs.Values.{value_of}
-use Rattle.bracket_poly.specs.Sections.{rewritten_of}
-use Rattle.cayley_run.specs.Sections.{value_from}
+use Rattle.bracket_poly.specs.Sections.{rewritten_of, value_from}
 use Rattle.cayley_run.proofs.values.value_from.Given as goal
 
 abbrev pub invariant-loop-section : goal.invariant-loop-section
