@@ -1,14 +1,31 @@
-//! Proof texts: the sections of a log as lines of text.
+//! Proof texts: the lines of a proof, what they say, and which texts are proofs.
 #![tactic(auto)]
 
+mod cut;
 mod error;
+mod fault;
+mod form;
+mod kinds;
+pub mod laws;
 mod line;
 mod log_use;
+mod meaning;
+mod moves;
+mod numbers;
+mod outline;
 mod polynomial;
+mod proof;
 mod section;
+mod spelling;
+mod state;
+mod stop;
 mod term;
-#[cfg(test)]
-mod tests;
+mod whole;
+mod word;
 
 pub use error::WriteError;
+pub use fault::{ProofError, ProofFault, ProofKind};
+pub use outline::{write_head, write_object, write_stop, write_verdict};
+pub use proof::Proof;
 pub use section::write_section;
+pub use stop::Stop;
