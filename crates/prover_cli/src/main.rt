@@ -2,16 +2,11 @@
 //! the verdict on standard output.
 #![tactic(auto)]
 
-mod laws;
-mod lines;
-mod reply;
-mod run;
-mod status;
-mod words;
-mod writing;
+ghost use Rattle.std.specs.Prelude.{◌≡◌, ◌≢◌};
+ghost use Rattle.std.specs.declared.io.ErrorKind.TheVariants.{OutOfMemory};
 
 use cay_base::{StdSink, StdSource};
-use run::run;
+use prover::run;
 use std::alloc::Global;
 use std::process::ExitCode;
 use std::{env, io};
@@ -30,8 +25,7 @@ fn main(rt: HostRuntime) -> ExitCode {
             let mut sink = StdSink::new(rt.stdout());
             ExitCode::from(run(alloc, &words, &mut source, &mut sink).number())
         }
-        Err(error) if error.kind() == io::ErrorKind::OutOfMemory => ExitCode::from(NO_MEMORY),
-        Err(_) => ExitCode::from(NO_TEXTS),
+        Err(error) => ExitCode::from(status_without_words(error.kind())),
     }
 }
 
@@ -40,5 +34,13 @@ fn words_after_name(rt: &HostRuntime, alloc: Global) -> io::Result<Vec<String>> 
     Ok(env::args(rt)?.skip(1).collect(alloc)?)
 }
 
-#[cfg(test)]
-mod tests;
+/// The status where the words cannot be taken, by the kind of the error.
+fn status_without_words(kind: io::ErrorKind) -> u8
+    ensures memory { kind ≡ OutOfMemory → result ≡ NO_MEMORY }
+    ensures texts { kind ≢ OutOfMemory → result ≡ NO_TEXTS }
+{
+    match kind {
+        io::ErrorKind::OutOfMemory => NO_MEMORY,
+        _ => NO_TEXTS,
+    }
+}

@@ -1,0 +1,9 @@
+pub mod WordLists
+pub mod Refusals
+pub mod Puts
+pub mod Verdicts
+pub mod Inputs
+pub mod AnswerLaws
+pub mod Replies
+pub mod Outcomes
+pub mod NamedLogs

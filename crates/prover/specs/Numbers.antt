@@ -1,0 +1,15 @@
+-- The number with which the program ends, by its status.
+use Rattle.std.specs.Prelude.{ℕ}
+use Rattle.prover.specs.declared.status.Status.{Status}
+use Rattle.prover.specs.declared.status.Status.TheVariants.{Proved, Refuted, Usage, TextRefused, Stopped, ReadFault, WriteFault, Memory}
+
+-- the number of a status
+abbrev pub number_of : Status → ℕ
+number_of Proved = 0
+number_of Refuted = 1
+number_of Usage = 2
+number_of TextRefused = 3
+number_of Stopped = 4
+number_of ReadFault = 5
+number_of WriteFault = 6
+number_of Memory = 7

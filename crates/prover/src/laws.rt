@@ -1,0 +1,11 @@
+//! Laws of the answer, each the contract of a function that does nothing.
+
+ghost use Rattle.std.specs.Prelude.{◌≡◌, ℕ, List};
+ghost use Rattle.prover.specs.Answer.{Answer, IsAnswer};
+
+/// Each list of words and each input has one answer.
+pub fn one_answer()
+    ensures some { (words : List (List ℕ)) (input : List ℕ) → (answer : Answer) × IsAnswer words input answer }
+    ensures unique { (words : List (List ℕ)) (input : List ℕ) (a b : Answer) →
+        IsAnswer words input a → IsAnswer words input b → a ≡ b }
+{}

@@ -1,0 +1,44 @@
+//! How a call of the program ends.
+
+ghost use Rattle.std.specs.Prelude.{◌≡◌};
+
+/// How a call of the program ends.
+#[derive(Clone, Copy, Debug, PartialEq, Eq)]
+pub enum Status {
+    /// The conclusion's polynomial is zero.
+    Proved,
+    /// The conclusion's polynomial is not zero.
+    Refuted,
+    /// The words are in none of the lists.
+    Usage,
+    /// The text is not one that the program takes.
+    TextRefused,
+    /// The run passed a limit.
+    Stopped,
+    /// The source failed.
+    ReadFault,
+    /// The sink failed.
+    WriteFault,
+    /// Memory was wanting.
+    Memory,
+}
+
+impl Status {
+    ghost use Rattle.prover.specs.Numbers.{number_of};
+
+    /// The number with which the program ends.
+    pub fn number(self) -> u8
+        ensures { result ≡ number_of self }
+    {
+        match self {
+            Status::Proved => 0,
+            Status::Refuted => 1,
+            Status::Usage => 2,
+            Status::TextRefused => 3,
+            Status::Stopped => 4,
+            Status::ReadFault => 5,
+            Status::WriteFault => 6,
+            Status::Memory => 7,
+        }
+    }
+}
