@@ -1,0 +1,17 @@
+use Rattle.std.proofs.Common.{rules}
+use Rattle.worked_values.proofs.Scaled.{are_joined, numbers_fit}
+use Rattle.worked_values.proofs.values.show_join.Goals as goal
+
+pub join-requires : goal.join-requires
+join-requires g c =
+    let a = c.args.a.now in
+    let b = c.args.b.now in (
+      search rules,
+      (
+        c.requires.rank,
+        (
+          are_joined g.row.M g.row.N a b c.requires.first c.requires.second c.requires.steps c.requires.enough,
+          numbers_fit g.row.M g.row.N a b c.requires.first c.requires.second,
+        ),
+      ),
+    )
