@@ -1,8 +1,9 @@
 //! Reading a source to its end.
 
-ghost use Rattle.std.specs.Prelude.{◌≡◌, ◌<◌, ◌≤◌, [], length, IfOk, OnOk, IfSome, OnSome, IsErrOf, Some};
+ghost use Rattle.std.specs.Prelude.{◌≡◌, ◌<◌, ◌≤◌, [], length, IfOk, OnOk, IfSome, OnSome, IsErr, IsErrOf, Some};
 ghost use Rattle.std.specs.Io.KnownBytes.{Consumes};
 ghost use Rattle.cay_base.specs.Causes.{Rose};
+ghost use Rattle.cay_base.specs.Reading.{Leaves};
 ghost use Rattle.cay_base.specs.declared.reading.ReadError.TheVariants.{Memory};
 
 use crate::source::Source;
@@ -42,6 +43,9 @@ pub fn read_all<S: Source>(alloc: Global, source: &mut S, limit: u64) -> Result<
 
     ensures read { IsErrOf result ReadError.Read → Rose (S.faults source.old) (S.faults source.new) }
     ensures too_long { IsErrOf result ReadError.TooLong → IfSome (S.left source.old) (λ left. limit < length left) }
+    ensures long { IfSome (S.left source.old) (λ left. limit < length left → IsErr result) }
+    ensures leaves { Leaves limit (S.left source.old) (S.left source.new) result }
+    ensures kept { ¬ IsErrOf result ReadError.Read → S.faults source.new ≡ S.faults source.old }
     ensures later { S.faults source.old ≤ S.faults source.new }
 {
     let mut bytes = Vec::new(alloc);
