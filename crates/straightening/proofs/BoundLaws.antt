@@ -44,16 +44,16 @@ module _ (d n : ℕ) (rank : IsRank d) (p : Tracked) (u : Use) (keys : IsBracket
   taken = rewrites_greatest d n p.sum u rank keys e
 
   -- the key that is taken away is open
-  taken_open : IsOpen d n p.sum taken.key
+  taken_open : IsOpen d n p.sum taken.at.key
   taken_open = record {
     turnable = record {
-      key = holds_of_term (IsKey d n) p.sum taken.key keys taken.there;
-      not_standard = taken.not_standard;
-      like = record { key = taken.key; there = taken.there; parameters = refl; same_points = λ i. refl };
+      key = holds_of_term (IsKey d n) p.sum taken.at.key keys taken.at.there;
+      not_standard = taken.at.not_standard;
+      like = record { key = taken.at.key; there = taken.at.there; parameters = refl; same_points = λ i. refl };
     };
-    top = taken.key;
-    there = taken.there;
-    not_standard = taken.not_standard;
+    top = taken.at.key;
+    there = taken.at.there;
+    not_standard = taken.at.not_standard;
     below = inl refl;
   }
 
@@ -61,23 +61,23 @@ module _ (d n : ℕ) (rank : IsRank d) (p : Tracked) (u : Use) (keys : IsBracket
   sum_after k = ap (λ (f : BracketPolynomial). coefficient f k) (use_adds p u)
 
   -- what is not standard behind the turn is less than it
-  top_descends : (k : Key) → HasTerm after.sum k → (IsStandardKey d n k → ⊥) → key_cmp k taken.key ≡ Less
-  top_descends k h s = step (key_cmp taken.key k) refl
+  top_descends : (k : Key) → HasTerm after.sum k → (IsStandardKey d n k → ⊥) → key_cmp k taken.at.key ≡ Less
+  top_descends k h s = step (key_cmp taken.at.key k) refl
     where
-      step : (o : Ordering) → key_cmp taken.key k ≡ o → key_cmp k taken.key ≡ Less
+      step : (o : Ordering) → key_cmp taken.at.key k ≡ o → key_cmp k taken.at.key ≡ Less
       step Less g =
-          absurd (s (taken.above k g (λ z. h (sum_after k ∙ taken.unchanged k g ∙ z))))
+          absurd (s (taken.at.above k g (λ z. h (sum_after k ∙ taken.unchanged k g ∙ z))))
       step Equal g =
           absurd (h (sum_after k
-          ∙ ap (λ (l : Key). coefficient (add p.sum (multiple u)) l) (sym (key_same taken.key k g)) ∙ taken.gone))
-      step Greater g = key_total.antisymm k taken.key ∙ ap ordering_reverse g
+          ∙ ap (λ (l : Key). coefficient (add p.sum (multiple u)) l) (sym (key_same taken.at.key k g)) ∙ taken.gone))
+      step Greater g = key_total.antisymm k taken.at.key ∙ ap ordering_reverse g
 
-  open_descends : (k : Key) → IsOpen d n after.sum k → key_cmp k taken.key ≡ Less
+  open_descends : (k : Key) → IsOpen d n after.sum k → key_cmp k taken.at.key ≡ Less
   open_descends k o =
-      let l : key_cmp o.top taken.key ≡ Less = top_descends o.top o.there o.not_standard in
+      let l : key_cmp o.top taken.at.key ≡ Less = top_descends o.top o.there o.not_standard in
       elim o.below [
-        | inl s ↦ subst (λ (x : Key). key_cmp x taken.key ≡ Less) (sym s) l
-        | inr g ↦ key_total.trans k o.top taken.key g l
+        | inl s ↦ subst (λ (x : Key). key_cmp x taken.at.key ≡ Less) (sym s) l
+        | inr g ↦ key_total.trans k o.top taken.at.key g l
       ]
 
   -- what is open behind the turn was so before
@@ -89,21 +89,21 @@ module _ (d n : ℕ) (rank : IsRank d) (p : Tracked) (u : Use) (keys : IsBracket
       like =
           like_further p.sum after.sum k.exponents (points k.rows) (like_after d n rank p u keys e) o.turnable.like;
     };
-    top = taken.key;
-    there = taken.there;
-    not_standard = taken.not_standard;
+    top = taken.at.key;
+    there = taken.at.there;
+    not_standard = taken.at.not_standard;
     below = inr (open_descends k o);
   }
 
   -- whether the key is another one than that which is taken away
   abbrev is_other : Key → Bool
-  is_other k = not (eq_by_cmp key_cmp k taken.key)
+  is_other k = not (eq_by_cmp key_cmp k taken.at.key)
 
   module _ (ks : List Key) (held : (k : Key) → IsOpen d n p.sum k → Contains ks k) where
     fewer : length (filter is_other ks) < length ks
     fewer =
-        shorter_filter is_other ks taken.key (held taken.key taken_open)
-        (ap (λ o. not (is_eq o)) (tied_itself key_total taken.key))
+        shorter_filter is_other ks taken.at.key (held taken.at.key taken_open)
+        (ap (λ o. not (is_eq o)) (tied_itself key_total taken.at.key))
 
     held_after : (k : Key) → IsOpen d n after.sum k → Contains (filter is_other ks) k
     held_after k o =

@@ -178,7 +178,7 @@ not_left d low high j l f g = step (nat_lt j l) refl
         let down : slice_index high j < slice_index low j = f.falls in
         absurd (omega arith)
 
-one_violation : (d : ℕ) (rows : List (List ℕ)) (i j k l : ℕ) → IsFirstViolation d rows i j
+pub one_violation : (d : ℕ) (rows : List (List ℕ)) (i j k l : ℕ) → IsFirstViolation d rows i j
     → IsFirstViolation d rows k l → (k ≡ i) × (l ≡ j)
 one_violation d rows i j k l v w =
     let a : k ≤ i = not_before d rows i j k l v w in

@@ -5,7 +5,9 @@ use Rattle.std.proofs.Common.{true≢false}
 use Rattle.std.specs.Prelude.{ℤ, pos, ◌+ℤ◌, neg_ℤ}
 use Rattle.std.proofs.lemmas.Int.{ints}
 use Rattle.std.specs.FinMap.{is_sorted}
-use Rattle.std.specs.Ordering.{eq_by_cmp, is_lt}
+use Rattle.std.specs.Ordering.{eq_by_cmp, is_lt, ordering_reverse}
+use Rattle.std.specs.declared.cmp.Ordering.{Ordering}
+use Rattle.std.specs.declared.cmp.Ordering.TheVariants.{Equal, Greater}
 use Rattle.std.specs.Cmp.{tied_itself}
 use Rattle.coordinate_model.specs.Sequences.{IsRank}
 use Rattle.coordinate_model.specs.Sums.{Terms, coefficient, count_at}
@@ -21,8 +23,8 @@ use Rattle.tableau_order.proofs.Columns.{falls_not_standard}
 use Rattle.coordinate_model.proofs.Splits.{all_so}
 use Rattle.syzygies.proofs.Falls.{none_at}
 use Rattle.straightening.specs.Turns.{first_violation, use_at, use_of_term, last_use, turn}
-use Rattle.straightening.specs.RunLaws.{TurnsWhereNotNormal, HasTerm, TurnRewritesGreatest}
-use Rattle.straightening.proofs.FirstViolations.{violation_found, columns_rise, standard_none}
+use Rattle.straightening.specs.RunLaws.{TurnsWhereNotNormal, HasTerm, IsTurn, TurnIsAtGreatest, TurnRewritesGreatest}
+use Rattle.straightening.proofs.FirstViolations.{violation_found, columns_rise, standard_none, one_violation}
 use Rattle.straightening.proofs.Options.{From, from_map, none_of}
 use Rattle.straightening.proofs.Rewritings.{IsAdded, all_multiple, count_multiple}
 use Rattle.straightening.proofs.TermLists.{all_around, all_joined, between, less_differs}
@@ -177,17 +179,60 @@ not_greater d n key k l a h = elim a.below [
   | inr e ↦ less_differs k l (key_total.trans l key k e h)
 ]
 
+-- what is taken is a turn
+abbrev turn_of : (d n : ℕ) (f : BracketPolynomial) (u : Use) → Taken d n f u → IsTurn d n f u
+turn_of d n f u t = record {
+  key = t.term.0;
+  there = t.there;
+  not_standard =
+      λ s. falls_not_standard d t.term.0.rows t.row t.column t.violation
+      (record { ascending = t.key.ascending; columns = s.columns });
+  above =
+      λ k h g. holds_of_term (λ l. key_cmp t.term.0 l ≡ Less → IsStandardKey d n l) f k t.above g h;
+  row = t.row;
+  column = t.column;
+  violation = t.violation;
+  used = sym t.used ∙ ap (λ c. use_at (t.term.0, c) (t.row, t.column)) (sym t.once);
+}
+
+-- two turns of a polynomial have one key
+one_key : (d n : ℕ) (f : BracketPolynomial) (u w : Use) (a : IsTurn d n f u) (b : IsTurn d n f w) → a.key ≡ b.key
+one_key d n f u w a b = step (key_cmp a.key b.key) refl
+  where
+    step : (o : Ordering) → key_cmp a.key b.key ≡ o → a.key ≡ b.key
+    step Less g = absurd (b.not_standard (a.above b.key g b.there))
+    step Equal g = key_same a.key b.key g
+    step Greater g =
+        absurd (a.not_standard (b.above a.key (key_total.antisymm b.key a.key ∙ ap ordering_reverse g) a.there))
+
+-- and so are one use
+one_turn : (d n : ℕ) (f : BracketPolynomial) (u w : Use) → IsTurn d n f u → IsTurn d n f w → u ≡ w
+one_turn d n f u w a b =
+    let same = one_key d n f u w a b in
+    let place = one_violation d b.key.rows b.row b.column a.row a.column b.violation
+    (subst (λ (k : Key). IsFirstViolation d k.rows a.row a.column) same a.violation) in
+    a.used
+    ∙ ap (λ (k : Key). use_at (k, coefficient f k) (a.row, a.column)) same
+    ∙ ap₂ (λ i j. use_at (b.key, coefficient f b.key) (i, j)) place.0 place.1
+    ∙ sym b.used
+
+pub turn_is_at_greatest : TurnIsAtGreatest
+turn_is_at_greatest d n f u rank keys = (
+  λ e. turn_of d n f u (taken d n f u keys e),
+  λ h. step h (turn f) refl,
+)
+  where
+    step : IsTurn d n f u → (o : Option Use) → turn f ≡ o → turn f ≡ Some u
+    step h None e =
+        absurd (h.not_standard
+        (holds_of_term (IsStandardKey d n) f h.key ((turns_where_not_normal d n f rank keys).0 e) h.there))
+    step h (Some w) e = e ∙ ap Some (one_turn d n f w u (turn_of d n f w (taken d n f w keys e)) h)
+
 pub rewrites_greatest : TurnRewritesGreatest
 rewrites_greatest d n f u rank keys e =
     let t : Taken d n f u = taken d n f u keys e in
     record {
-      key = t.term.0;
-      there = t.there;
-      not_standard =
-          λ s. falls_not_standard d t.term.0.rows t.row t.column t.violation
-          (record { ascending = t.key.ascending; columns = s.columns });
-      above =
-          λ k h g. holds_of_term (λ l. key_cmp t.term.0 l ≡ Less → IsStandardKey d n l) f k t.above g h;
+      at = turn_of d n f u t;
       gone =
           count-plus key_cmp key_total key_same t.term.0 f (multiple u)
           ∙ ap₂ ◌+ℤ◌ t.once (opposite_term d n f u rank t) ∙ opposite t.term.1;

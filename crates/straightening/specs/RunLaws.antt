@@ -7,8 +7,9 @@ use Rattle.coordinate_model.specs.Sums.{coefficient}
 use Rattle.coordinate_model.specs.Key.{Key, key_cmp, IsStandardKey, points, HasPoints}
 use Rattle.coordinate_model.specs.BracketPolynomial.{BracketPolynomial, IsBracketPolynomial, IsNormal, AllKeys, add, value}
 use Rattle.coordinate_model.specs.Syzygy.{Use, multiple, additions}
+use Rattle.tableau_order.specs.Standard.{IsFirstViolation}
 use Rattle.bracket_poly.specs.Tracked.{Tracked, plus_terms}
-use Rattle.straightening.specs.Turns.{turn}
+use Rattle.straightening.specs.Turns.{turn, use_at}
 use Rattle.straightening.specs.Runs.{Run, run, ended}
 
 -- there is a turn exactly where a polynomial is not normal
@@ -20,14 +21,27 @@ TurnsWhereNotNormal =
 abbrev pub HasTerm : BracketPolynomial → Key → Type 0
 HasTerm f k = (coefficient f k ≡ pos 0) → ⊥
 
--- the turn of a polynomial takes its greatest key away that is not standard, and else changes only smaller ones
-pub record RewritesGreatest (d n : ℕ) (f : BracketPolynomial) (u : Use) : Type 0 where
+-- the use takes the term away that has the greatest key that is not standard, at the first place where its rows fall
+pub record IsTurn (d n : ℕ) (f : BracketPolynomial) (u : Use) : Type 0 where
   pub key : Key
   pub there : HasTerm f key
   pub not_standard : IsStandardKey d n key → ⊥
   pub above : (k : Key) → key_cmp key k ≡ Less → HasTerm f k → IsStandardKey d n k
-  pub gone : coefficient (add f (multiple u)) key ≡ pos 0
-  pub unchanged : (k : Key) → key_cmp key k ≡ Less → coefficient (add f (multiple u)) k ≡ coefficient f k
+  pub row : ℕ
+  pub column : ℕ
+  pub violation : IsFirstViolation d key.rows row column
+  pub used : u ≡ use_at (key, coefficient f key) (row, column)
+
+abbrev pub TurnIsAtGreatest : Type 0
+TurnIsAtGreatest =
+    (d n : ℕ) (f : BracketPolynomial) (u : Use) → IsRank d → IsBracketPolynomial d n f
+    → ((turn f ≡ Some u) ↔ IsTurn d n f u)
+
+-- behind it the key has no term, and else only smaller ones have changed
+pub record RewritesGreatest (d n : ℕ) (f : BracketPolynomial) (u : Use) : Type 0 where
+  pub at : IsTurn d n f u
+  pub gone : coefficient (add f (multiple u)) at.key ≡ pos 0
+  pub unchanged : (k : Key) → key_cmp at.key k ≡ Less → coefficient (add f (multiple u)) k ≡ coefficient f k
 
 abbrev pub TurnRewritesGreatest : Type 0
 TurnRewritesGreatest =

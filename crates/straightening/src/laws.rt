@@ -1,11 +1,12 @@
 //! The laws of turns and of runs. Each function does nothing; its clauses are the laws.
-ghost use Rattle.straightening.specs.RunLaws.{TurnsWhereNotNormal, TurnRewritesGreatest, RunKeepsValue, RunEndsWell, RunKeepsClasses, NoTurnOfNormal};
+ghost use Rattle.straightening.specs.RunLaws.{TurnsWhereNotNormal, TurnIsAtGreatest, TurnRewritesGreatest, RunKeepsValue, RunEndsWell, RunKeepsClasses, NoTurnOfNormal};
 ghost use Rattle.straightening.specs.Bounds.{RunIsBounded, TurnableKeys, RunTakesAtMost};
 
-/// A polynomial has a turn exactly where it is not normal. The turn takes its greatest key away that is not standard, and
-/// else changes only smaller ones.
+/// A polynomial has a turn exactly where it is not normal. The turn is the use that takes the term with the greatest key that
+/// is not standard away, at the first place where its rows fall; else it changes only smaller keys.
 pub fn turns()
     ensures where_not_normal { TurnsWhereNotNormal }
+    ensures at { TurnIsAtGreatest }
     ensures greatest { TurnRewritesGreatest }
 {}
 
