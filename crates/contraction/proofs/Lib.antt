@@ -7,3 +7,12 @@ pub mod RowCounts
 pub mod PassTerms
 pub mod FewerTerms
 pub mod PassRuns
+pub mod RowsApart
+pub mod Multipliers
+pub mod UsePairs
+pub mod PassEnds
+pub mod PassesSoFar
+pub mod Differences
+pub mod PairCounts
+pub mod PointLists
+pub mod CodeTerms

@@ -1,7 +1,7 @@
 -- The pair of a pass, and its use: the two rows share d - 2 points, so the use has its sizes, and keeps the value.
 use Rattle.std.proofs.Common.{◌≡◌, ◌≢◌, ℕ, ◌+◌, ◌≤◌, ◌==◌, ◌&&◌, Bool, true, false, cond, not, List, [], ◌∷◌}
 use Rattle.std.proofs.Common.{◌++◌, length, filter, take, drop, refl, sym, ap, ◌∙◌, arith, inl, inr, subst, true≢false}
-use Rattle.std.proofs.Common.{Option, Some, None, eqb-true, length-append}
+use Rattle.std.proofs.Common.{Option, Some, None, eqb-true, eq-eqb, ne_eqb, length-append}
 use Rattle.std.specs.Prelude.{ℤ}
 use Rattle.std.proofs.lemmas.Bool.Decides.{eqb_tells}
 use Rattle.std.proofs.lemmas.List.Filters.{length-filter_both}
@@ -27,6 +27,7 @@ use Rattle.straightening.proofs.Options.{some_same}
 use Rattle.contraction.specs.Passes.{less_row, own_rows, shared, further, use_by, cancels, same_points, are_alike, use_of_pair}
 use Rattle.contraction.specs.Passes.{first_with, first_use}
 use Rattle.contraction.specs.PassLaws.{PassKeepsValue}
+use Rattle.contraction.specs.Pairs.{beta_of, gamma_of}
 use Rattle.contraction.proofs.ThreeTermSigns.{absent, present, times_once}
 
 -- ---- the pair
@@ -194,40 +195,64 @@ module _ (d : ℕ) (low high : List ℕ) (is_low : IsRow d low) (is_high : IsRow
       let q : length high ≡ d = is_high.0 in
       omega arith
 
+-- rows have four further points exactly where they share all but two
+pub crosses_is : (d : ℕ) (low high : List ℕ) → IsRow d low → IsRow d high → (n : ℕ) → n ≡ length (shared low high)
+    → (n + 2 == d) ≡ (length (further low high) == 4)
+crosses_is d low high is_low is_high n count =
+    let a : length (shared low high) + length (without low high) ≡ length low =
+    length-filter_both (has high) (λ x. not (has high x)) (λ x. refl) low in
+    let b : length (shared high low) + length (without high low) ≡ length high =
+    length-filter_both (has low) (λ x. not (has low x)) (λ x. refl) high in
+    let c : length (shared low high) ≡ length (shared high low) =
+    shared_both low high (λ i. times_once i low (increasing-repeats low is_low.1))
+    (λ i. times_once i high (increasing-repeats high is_high.1)) in
+    let e : length (further low high) ≡ length (without low high ++ without high low) =
+    length-ordered (without low high ++ without high low) in
+    let f : length (without low high ++ without high low) ≡ length (without low high) + length (without high low) =
+    length-append (without low high) (without high low) in
+    let p : length low ≡ d = is_low.0 in
+    let q : length high ≡ d = is_high.0 in
+    elim (eqb_tells (n + 2) d) [
+      | inl h ↦ h.0 ∙ sym (eq-eqb (length (further low high)) 4 (let k : n + 2 ≡ d = h.1 in omega arith))
+      | inr h ↦ h.0 ∙ sym (ne_eqb (length (further low high)) 4 (λ k. h.1 (omega arith)))
+    ]
+
 take_one : (xs : List ℕ) → length xs ≡ 4 → (length (take 1 xs) ≡ 1) × (length (drop 1 xs) ≡ 3)
 take_one [] l = absurd (omega arith)
 take_one (x ∷ xs) l = (refl, omega arith)
 
 -- ---- the use
 
+-- the lists of the syzygy of rows that are alike to others have their sizes
+pub alike_sizes : (d : ℕ) → IsRank d → (rows others : List (List ℕ)) → AllByRecursion (IsRow d) rows
+    → are_alike rows others ≡ true → AreSizes d [] (beta_of rows) (gamma_of rows)
+alike_sizes d rank rows others each alike =
+    let low : List ℕ = row_at rows 0 in
+    let high : List ℕ = row_at rows 1 in
+    let a = parts (length rows == 2) _ alike in
+    let b = parts (length others == 2) _ a.1 in
+    let c = parts (same_points (shared low high) _) _ b.1 in
+    let e = parts (same_points (further low high) _) (length (further low high) == 4) c.1 in
+    let two : length rows ≡ 2 = eqb-true (length rows) 2 a.0 in
+    let four : length (further low high) ≡ 4 = eqb-true (length (further low high)) 4 e.1 in
+    let r = of_two (IsRow d) rows two each in
+    let size : length (shared low high) + 2 ≡ d = shared_size d low high r.0 r.1 four in
+    let w = take_one (further low high) four in
+    let x : length (take 1 (further low high)) ≡ 1 = w.0 in
+    let y : length (drop 1 (further low high)) ≡ 3 = w.1 in
+    let p : length (shared low high ++ drop 1 (further low high)) ≡ length (shared low high) + length (drop 1 (further low high)) =
+    length-append (shared low high) (drop 1 (further low high)) in
+    let q : length (shared low high ++ take 1 (further low high)) ≡ length (shared low high) + length (take 1 (further low high)) =
+    length-append (shared low high) (take 1 (further low high)) in
+    record { rank = rank; beta = omega arith; others = omega arith }
+
 module _ (d n : ℕ) (rank : IsRank d) (t s : Key × ℤ) (u : Use) (key : IsKey d n t.0) (pair : IsPair t s u) where
   abbrev rows : List (List ℕ)
   rows = own_rows t.0.rows s.0.rows
 
-  abbrev low : List ℕ
-  low = row_at rows 0
-
-  abbrev high : List ℕ
-  high = row_at rows 1
-
   sizes_here : AreSizes d (use_by t rows).alpha (use_by t rows).beta (use_by t rows).gamma
   sizes_here =
-      let a = parts (length rows == 2) _ pair.alike in
-      let b = parts (length (own_rows s.0.rows t.0.rows) == 2) _ a.1 in
-      let c = parts (same_points (shared low high) _) _ b.1 in
-      let e = parts (same_points (further low high) _) (length (further low high) == 4) c.1 in
-      let two : length rows ≡ 2 = eqb-true (length rows) 2 a.0 in
-      let four : length (further low high) ≡ 4 = eqb-true (length (further low high)) 4 e.1 in
-      let r = of_two (IsRow d) rows two (all_own (IsRow d) t.0.rows s.0.rows key.each) in
-      let size : length (shared low high) + 2 ≡ d = shared_size d low high r.0 r.1 four in
-      let w = take_one (further low high) four in
-      let x : length (take 1 (further low high)) ≡ 1 = w.0 in
-      let y : length (drop 1 (further low high)) ≡ 3 = w.1 in
-      let p : length (shared low high ++ drop 1 (further low high)) ≡ length (shared low high) + length (drop 1 (further low high)) =
-      length-append (shared low high) (drop 1 (further low high)) in
-      let q : length (shared low high ++ take 1 (further low high)) ≡ length (shared low high) + length (take 1 (further low high)) =
-      length-append (shared low high) (take 1 (further low high)) in
-      record { rank = rank; beta = omega arith; others = omega arith }
+      alike_sizes d rank rows (own_rows s.0.rows t.0.rows) (all_own (IsRow d) t.0.rows s.0.rows key.each) pair.alike
 
   pub sizes : AreSizes d u.alpha u.beta u.gamma
   sizes = subst (λ (w : Use). AreSizes d w.alpha w.beta w.gamma) pair.used sizes_here

@@ -38,11 +38,11 @@ module _ (d n : ℕ) (rank : IsRank d) where
     abbrev after : Tracked
     after = plus_terms p (additions u)
 
-    formed_after : IsBracketPolynomial d n after.sum
+    pub formed_after : IsBracketPolynomial d n after.sum
     formed_after =
         subst (IsBracketPolynomial d n) (sym (use_adds p u)) (pass_keeps_classes d n p.sum u rank h e).formed
 
-    fewer_after : length after.sum.terms < length p.sum.terms
+    pub fewer_after : length after.sum.terms < length p.sum.terms
     fewer_after =
         subst (λ (f : BracketPolynomial). length f.terms < length p.sum.terms) (sym (use_adds p u))
         (pass_makes_fewer d n p.sum u rank h e)

@@ -1,2 +1,4 @@
 pub mod Passes
 pub mod PassLaws
+pub mod Results
+pub mod Pairs

@@ -1,18 +1,21 @@
 -- The laws of passes, as the contracts cite them.
-use Rattle.std.specs.Prelude.{◌≡◌, ◌⊎◌, ◌<◌, ◌≤◌, ℕ, ◌+◌, pos, negsuc, List, [], ◌∷◌, ◌++◌, length, false, Some, None}
+use Rattle.std.specs.Prelude.{◌≡◌, ◌⊎◌, ⊤, ◌<◌, ◌≤◌, ℕ, ◌+◌, pos, negsuc, List, [], ◌∷◌, ◌++◌, length, false}
+use Rattle.std.specs.Prelude.{Some, None}
 use Rattle.std.specs.List.{AllByRecursion}
 use Rattle.coordinate_model.specs.Sequences.{IsRank, repeats}
 use Rattle.coordinate_model.specs.Brackets.{three_term}
-use Rattle.coordinate_model.specs.BracketPolynomial.{KeySums, BracketPolynomial, AllKeys, IsBracketPolynomial, add, value}
+use Rattle.coordinate_model.specs.BracketPolynomial.{KeySums, BracketPolynomial, AllKeys, IsBracketPolynomial, add}
+use Rattle.coordinate_model.specs.BracketPolynomial.{value}
 use Rattle.coordinate_model.specs.Syzygy.{Use, AreSizes, sorted_bracket, syz, multiple}
 use Rattle.coordinate_model.specs.Sums.{coefficient}
 use Rattle.coordinate_model.specs.Key.{Key, points}
 use Rattle.bracket_poly.specs.Tracked.{Tracked}
 use Rattle.straightening.specs.RunLaws.{HasTerm, HasLike, KeepsClasses, use_points}
-use Rattle.straightening.specs.Runs.{Run}
-use Rattle.contraction.specs.Passes.{pass, contraction}
+use Rattle.straightening.specs.Runs.{Run, run}
+use Rattle.contraction.specs.Passes.{pass, contraction, contracted}
 
--- the syzygy of empty alpha, of S b c e and of S a is minus the three-term sum [S a b][S c e] - [S a c][S b e] + [S a e][S b c]
+-- the syzygy of empty alpha, of S b c e and of S a is minus the three-term sum
+-- [S a b][S c e] - [S a c][S b e] + [S a e][S b c]
 abbrev pub SyzygyIsThreeTerms : Type 0
 SyzygyIsThreeTerms =
     (S : List ℕ) (a b c e : ℕ) → IsRank (length S + 2)
@@ -79,3 +82,20 @@ pub record Contracts (d n : ℕ) (p : Tracked) (r : Run) : Type 0 where
 abbrev pub ContractionContracts : Type 0
 ContractionContracts =
     (d n : ℕ) (p : Tracked) → IsRank d → IsBracketPolynomial d n p.sum → Contracts d n p (contraction p)
+
+-- each of the uses, one after another, makes the terms fewer
+abbrev pub EachLowers : BracketPolynomial → List Use → Type 0
+EachLowers f [] = ⊤
+EachLowers f (u ∷ uses) =
+    (length (add f (multiple u)).terms < length f.terms) × EachLowers (add f (multiple u)) uses
+
+-- runs of turns of both, with any budgets, end alike where nothing stops them
+abbrev pub EndAlike : Tracked → Tracked → Type 0
+EndAlike p q =
+    (first second : ℕ) → (run first p).stop ≡ None → (run second q).stop ≡ None
+    → (run first p).last.sum ≡ (run second q).last.sum
+
+-- with and without the passes of a start, runs that nothing stops end alike
+abbrev pub ContractionEndsAlike : Type 0
+ContractionEndsAlike =
+    (d n : ℕ) (p : Tracked) → IsRank d → IsBracketPolynomial d n p.sum → EndAlike p (contracted p).last

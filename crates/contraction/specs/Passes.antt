@@ -1,7 +1,8 @@
--- Passes of contraction: two terms that a three-term syzygy of Grassmann and Pluecker turns into one (after H. Li and Y. Wu,
--- Journal of Symbolic Computation 36, 2003). Which pair comes first is this library's own.
+-- Passes of contraction: two terms that a three-term syzygy of Grassmann and Pluecker turns into one (after H. Li and
+-- Y. Wu, Journal of Symbolic Computation 36, 2003). Which pair comes first, and the greatest number of terms, are this
+-- library's own.
 use Rattle.std.specs.Prelude.{ℕ, zero, suc, ◌==◌, ◌&&◌, Bool, if◌then◌else◌, ℤ, pos, ◌+ℤ◌, ◌*ℤ◌, neg_ℤ}
-use Rattle.std.specs.Prelude.{List, [], ◌∷◌, ◌++◌, filter, take, drop, length, Option, Some, None}
+use Rattle.std.specs.Prelude.{List, [], ◌∷◌, ◌++◌, filter, take, drop, length, nat_lt, Option, Some, None}
 use Rattle.std.specs.Ordering.{eq_by_cmp}
 use Rattle.coordinate_model.specs.Sequences.{has, without}
 use Rattle.coordinate_model.specs.Sums.{Terms, is_zero, coefficient}
@@ -38,8 +39,8 @@ further low high = sorted (without low high ++ without high low)
 abbrev pub count_in : Use → List (List ℕ) → ℤ
 count_in u rows = coefficient (syz u.alpha u.beta u.gamma) (rows_key rows)
 
--- the use that takes a term away by these two rows of it: its syzygy has the points that both share, and in ascending order
--- the further ones
+-- the use that takes a term away by these two rows of it: its syzygy has the points that both share, and in ascending
+-- order the further ones
 abbrev pub use_by : Key × ℤ → List (List ℕ) → Use
 use_by t rows =
     let S = shared (row_at rows 0) (row_at rows 1) in
@@ -111,3 +112,11 @@ passes (suc n) p = elim (pass p.sum) [
 -- the passes of a start: each makes the terms fewer, so there are no more passes than terms
 unfoldable pub contraction : Tracked → Run
 contraction p = passes (length p.sum.terms) p
+
+-- the greatest number of terms of a start that is contracted
+abbrev pub most_terms : ℕ
+most_terms = 200
+
+-- the passes of a start, and none where it has more terms than that
+abbrev pub contracted : Tracked → Run
+contracted p = if nat_lt most_terms (length p.sum.terms) then ended p None else contraction p
