@@ -31,3 +31,10 @@ pub mod Reaching
 pub mod SectionAgain
 pub mod TextAgain
 pub mod OutcomeLaws
+pub mod PointSteps
+pub mod BehindSteps
+pub mod ReadSteps
+pub mod TakenSteps
+pub mod SoundSteps
+pub mod ProductSteps
+pub mod CountLaws

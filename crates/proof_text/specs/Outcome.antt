@@ -1,5 +1,5 @@
 -- What a proof is read for, and what a proof of the code tells.
-use Rattle.std.specs.Prelude.{◌≡◌, ℕ, ◌≤◌, ◌<◌, ◌^◌, ◌&&◌, true, List, ◌++◌, map, length, IfSome}
+use Rattle.std.specs.Prelude.{◌≡◌, ℕ, ◌≤◌, ◌<◌, ◌^◌, ◌&&◌, true, List, ◌++◌, map, length, sum_by, IfSome}
 use Rattle.std.specs.List.{AllByRecursion, IsDistinct, list_all}
 use Rattle.coordinate_model.specs.Sequences.{IsRank}
 use Rattle.coordinate_model.specs.Key.{Key}
@@ -48,3 +48,8 @@ MetInSection s = HasMetTerms s.start × IfSome s.end HasMetTerms
 -- and so those of all polynomials of a proof
 abbrev pub HaveMetTerms : {d : ℕ} → Proof d → Type 0
 HaveMetTerms p = AllByRecursion (λ o. AllByRecursion MetInSection o.sections) p.objects
+
+-- fewer than 2^32 sections in all, and fewer than 2^32 uses in each
+pub record IsCountable {d : ℕ} (p : Proof d) : Type 0 where
+  pub sections : sum_by (λ o. length o.sections) p.objects < 2 ^ 32
+  pub uses : AllByRecursion (λ o. AllByRecursion (λ s. length s.uses < 2 ^ 32) o.sections) p.objects

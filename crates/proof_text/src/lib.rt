@@ -1,6 +1,8 @@
 //! Proof texts: the lines of a proof, what they say, and which texts are proofs.
 #![tactic(auto)]
 
+mod adding;
+mod body;
 mod cut;
 mod error;
 mod fault;
@@ -13,19 +15,27 @@ mod meaning;
 mod moves;
 mod numbers;
 mod outline;
+mod points;
 mod polynomial;
+mod products;
 mod proof;
+mod reading;
+mod scalars;
 mod section;
 mod spelling;
 mod state;
 mod stop;
+mod taking;
 mod term;
 mod whole;
 mod word;
 
+pub use cut::first_line;
 pub use error::WriteError;
 pub use fault::{ProofError, ProofFault, ProofKind};
 pub use outline::{write_head, write_object, write_stop, write_verdict};
+pub use polynomial::write_terms;
 pub use proof::Proof;
+pub use reading::read_proof;
 pub use section::write_section;
 pub use stop::Stop;

@@ -3,10 +3,11 @@ ghost use Rattle.std.specs.Prelude.{◌≡◌, length, map, OnOk};
 ghost use Rattle.coordinate_model.specs.Sequences.{IsRank};
 ghost use Rattle.bracket_poly.specs.Sections.{rewritten_of};
 ghost use Rattle.proof_text.specs.Told.{is_zero_end};
-ghost use Rattle.proof_text.specs.Kinds.{is_next_object, is_other_object, is_decided, is_misjudged};
+ghost use Rattle.proof_text.specs.Kinds.{is_next_object, is_other_object, is_decided};
 ghost use Rattle.proof_text.specs.Seen.{part_seen, form_seen};
 ghost use Rattle.proof_text.specs.State.{takes, ended_at, ready, begun, has_room, may_stand, with_part, with_end};
-ghost use Rattle.proof_text.specs.StateSeen.{place_seen, state_seen};
+ghost use Rattle.proof_text.specs.Outcome.{HasMetTerms};
+ghost use Rattle.proof_text.specs.StateSeen.{place_seen, state_seen, IsSound};
 
 use crate::numbers::writes;
 use crate::spelling::{Form, Part};
@@ -43,8 +44,10 @@ pub(crate) fn takes(more: bool, place: Place, form: &Form) -> bool
 impl<const D: usize> State<D> {
     /// Ends the list of terms.
     pub(crate) fn end_part(&mut self, alloc: Global, part: Part) -> Result<(), NoMemory>
-        requires { IsRank D }
-        ensures { OnOk result (state_seen self.new ≡ with_part (part_seen part) (state_seen self.old)) }
+        requires rank { IsRank D }
+        requires sound { IsSound self.old }
+        ensures ended { OnOk result (state_seen self.new ≡ with_part (part_seen part) (state_seen self.old)) }
+        ensures sound { OnOk result (IsSound self.new) }
     {
         let terms = mem::replace(&mut self.terms, Poly::new(alloc));
         match part {
@@ -60,8 +63,11 @@ impl<const D: usize> State<D> {
 
     /// Puts the section that is read behind those that are done, with this end.
     fn end_section(&mut self, alloc: Global, end: Poly<D>) -> Result<(), NoMemory>
-        requires { IsRank D }
-        ensures { OnOk result (state_seen self.new ≡ with_end end.entry.tracked.sum (state_seen self.old)) }
+        requires rank { IsRank D }
+        requires sound { IsSound self.old }
+        requires met { HasMetTerms end }
+        ensures ended { OnOk result (state_seen self.new ≡ with_end end.entry.tracked.sum (state_seen self.old)) }
+        ensures sound { OnOk result (IsSound self.new) }
     {
         let start = mem::replace(&mut self.start, Poly::new(alloc));
         let uses = mem::replace(&mut self.uses, Vec::new(alloc));
@@ -77,8 +83,10 @@ impl<const D: usize> State<D> {
 
     /// Ends the list of terms that is read, where it has a term.
     fn end_list(&mut self, alloc: Global) -> Result<(), NoMemory>
-        requires { IsRank D }
-        ensures { OnOk result (state_seen self.new ≡ ended_at (state_seen self.old).place (state_seen self.old)) }
+        requires rank { IsRank D }
+        requires sound { IsSound self.old }
+        ensures ended { OnOk result (state_seen self.new ≡ ended_at (state_seen self.old).place (state_seen self.old)) }
+        ensures sound { OnOk result (IsSound self.new) }
     {
         match self.place {
             Place::AtMore(part) => self.end_part(alloc, part),
@@ -88,8 +96,10 @@ impl<const D: usize> State<D> {
 
     /// Makes ready for a line of this form.
     pub(crate) fn make_ready(&mut self, alloc: Global, form: &Form) -> Result<(), NoMemory>
-        requires { IsRank D }
-        ensures { OnOk result (state_seen self.new ≡ ready (form_seen form.now) (state_seen self.old)) }
+        requires rank { IsRank D }
+        requires sound { IsSound self.old }
+        ensures ready { OnOk result (state_seen self.new ≡ ready (form_seen form.now) (state_seen self.old)) }
+        ensures sound { OnOk result (IsSound self.new) }
     {
         match form {
             Form::Term(_) | Form::Zero => Ok(()),
@@ -98,7 +108,7 @@ impl<const D: usize> State<D> {
     }
 
     /// How many objects have been begun.
-    fn begun(&self) -> usize
+    pub(crate) fn begun(&self) -> usize
         ensures { result ≡ length (begun (state_seen self.now)) }
     {
         if self.number == 0 {
@@ -142,20 +152,10 @@ impl<const D: usize> State<D> {
         let next = steps.get(begun).copied().unwrap_or(0);
         writes(number.bytes(), begun as u128 + 1) && writes(step.bytes(), u128::from(next))
     }
-
-    /// Whether the verdict is not that of the one section of the last object.
-    pub(crate) fn is_misjudged(&self, form: &Form) -> bool
-        ensures { result ≡ is_misjudged (state_seen self.now) (form_seen form.now) }
-    {
-        match form {
-            Form::Verdict(is_proved) => !is_decided(*is_proved, &self.sections),
-            _ => false,
-        }
-    }
 }
 
 /// Whether the only one of the sections has an end that is zero or not.
-fn is_decided<const D: usize>(is_proved: bool, sections: &[Section<D>]) -> bool
+pub(crate) fn is_decided<const D: usize>(is_proved: bool, sections: &[Section<D>]) -> bool
     ensures { result ≡ is_decided is_proved (map rewritten_of sections.now) }
 {
     match sections {

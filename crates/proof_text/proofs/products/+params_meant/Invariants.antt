@@ -1,0 +1,5 @@
+use Rattle.std.proofs.Common.{length}
+use Rattle.proof_text.proofs.products.+params_meant.Given as goal
+
+abbrev pub decreases-params_meant : goal.decreases-params_meant
+decreases-params_meant l = length l.powers.now
