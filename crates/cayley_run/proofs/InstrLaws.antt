@@ -30,7 +30,7 @@ use Rattle.cayley_terms.specs.Figures.{Figure, no_figure, point, joined, met, mi
 use Rattle.cayley_terms.specs.Instrs.{no_measure, measure_at, instr_measure, figure_at, instr_figure}
 use Rattle.cayley_terms.specs.Meaning.{Variables}
 use Rattle.cayley_terms.specs.Programs.{IsInner, IsLast}
-use Rattle.cayley_terms.specs.Starts.{one_of, free_value}
+use Rattle.cayley_terms.specs.Starts.{one_of, free_value, value_at}
 use Rattle.bracket_poly.specs.Tracked.{Tracked, Limit}
 use Rattle.conic_points.specs.Makings.{made_conic}
 use Rattle.straightening.specs.Runs.{limit_stop}
@@ -38,7 +38,7 @@ use Rattle.cayley_run.specs.Sections.{Sections, run_starts}
 use Rattle.shuffle_meet.specs.Stops.{Start}
 use Rattle.shuffle_meet.specs.SectionStarts.{is_conclusion}
 use Rattle.bracket_poly.specs.Sections.{value_from}
-use Rattle.cayley_run.specs.Runs.{Log, value_at, with_object, with_start, with_instr}
+use Rattle.cayley_run.specs.Runs.{Log, with_object, with_start, with_instr}
 use Rattle.cayley_run.specs.RunLaws.{AllEndWell, IsValueOf, LastEnds}
 use Rattle.cayley_run.proofs.SectionLaws.{IsStart, starts_well, starts_ended, same_coordinates}
 use Rattle.cayley_run.proofs.ConicStarts.{IsPlanePoint, conic_start, conic_same}
@@ -282,14 +282,15 @@ module _ (d : ℕ) (rank : IsRank d) (figure : Figure Polynomials) (step : figur
       }
       by_made (Ok f) e =
           let starts : List Start = ([], f) ∷ [] in
-          let s : Sections = run_starts log.left starts in
+          let s : Sections = run_starts log.options.contract log.left starts in
           let formed : AllByRecursion (IsStart d 0) starts = (keys f e, tt) in
           record {
-            well = object.worked_well d 0 log s sections (starts_well d 0 rank log.left starts formed);
+            well = object.worked_well d 0 log s sections
+                (starts_well d 0 rank log.options.contract log.left starts formed);
             value = value_from s.sections;
             values = refl;
             good = λ n.
-                let ended = starts_ended d 0 rank log.left starts formed n in
+                let ended = starts_ended d 0 rank log.options.contract log.left starts formed n in
                 let last = object.one_section d 0 log s f ended in (
                   λ i z l.
                       let K = get_or (subsets d figure.step) i z in
@@ -330,7 +331,7 @@ module _ (made : List Made) (log : Log) (values : log.values ≡ values_of made)
   made_at n = record {
     measure = measure_at (measures_of made) n;
     figure = figure_at Variables (figures_of made) n;
-    value = value_at log n;
+    value = value_at log.values n;
   }
 
   pub holds_at : (P : Made → Type 0) → AllByRecursion P made → (n : ℕ) → n < length (measures_of made) → P (made_at n)
@@ -389,7 +390,7 @@ module _ (d : ℕ) (rank : IsRank d) (made : List Made) (log : Log) (all : AllBy
       let few : (at a).figure.step + (at b).figure.step < d = subst (λ n. n < d) e s in
       adds_inner d (step_of (Join a b))
       (cond ((at a).figure.step + (at b).figure.step == d) 0 ((at a).figure.step + (at b).figure.step)) rank
-      (join_products d (value_at log a) (value_at log b)) (figure_of (Join a b))
+      (join_products d (value_at log.values a) (value_at log.values b)) (figure_of (Join a b))
       (join_work d rank (at a) (at b) x y (omega arith)) log sections (instr_measure d (measures_of made) (Join a b)) refl
       h.sized.least s (not_full d ((at a).figure.step + (at b).figure.step) few)
   inner_instr (Meet a b) h =
@@ -399,14 +400,15 @@ module _ (d : ℕ) (rank : IsRank d) (made : List Made) (log : Log) (all : AllBy
       let s : d < (at a).measure.step + (at b).measure.step = h.steps in
       let more : d < (at a).figure.step + (at b).figure.step = subst (λ n. d < n) e s in
       adds_inner d (step_of (Meet a b)) ((at a).figure.step + (at b).figure.step - d) rank
-      (meet_products d (value_at log a) (value_at log b)) (figure_of (Meet a b))
+      (meet_products d (value_at log.values a) (value_at log.values b)) (figure_of (Meet a b))
       (meet_work d rank (at a) (at b) x y (omega arith)) log sections (instr_measure d (measures_of made) (Meet a b)) refl
       h.sized.least h.sized.below refl
   inner_instr (On a b s t) h =
       let x : IsMade d (at a) = is_at a h.earlier.0 in
       let y : IsMade d (at b) = is_at b h.earlier.1.0 in
       let steps = h.steps in
-      adds_inner d 1 1 rank (on_products (parameter_of 64 s) (parameter_of 64 t) (value_at log a) (value_at log b))
+      adds_inner d 1 1 rank (on_products (parameter_of 64 s) (parameter_of 64 t) (value_at log.values a)
+      (value_at log.values b))
       (figure_of (On a b s t))
       (on_work d rank (at a) (at b) x y s t steps.2 steps.3 (sym x.step ∙ steps.0) (sym y.step ∙ steps.1)) log sections
       (instr_measure d (measures_of made) (On a b s t)) refl (omega arith) (let l = rank.0 in omega arith) refl
@@ -424,7 +426,7 @@ module _ (d : ℕ) (rank : IsRank d) (made : List Made) (log : Log) (all : AllBy
       let few : (at a).figure.step + (at b).figure.step ≡ d = sym e ∙ s in
       adds_last d (step_of (Join a b))
       (cond ((at a).figure.step + (at b).figure.step == d) 0 ((at a).figure.step + (at b).figure.step)) rank
-      (join_products d (value_at log a) (value_at log b)) (figure_of (Join a b))
+      (join_products d (value_at log.values a) (value_at log.values b)) (figure_of (Join a b))
       (join_work d rank (at a) (at b) x y (omega arith)) log sections
       (either (step_of (Join a b) == 0) (step_of (Join a b) == d) (eq-eqb (step_of (Join a b)) d s))
     where
@@ -438,7 +440,7 @@ module _ (d : ℕ) (rank : IsRank d) (made : List Made) (log : Log) (all : AllBy
       let s : (at a).measure.step + (at b).measure.step ≡ d = h.steps in
       let more : (at a).figure.step + (at b).figure.step ≡ d = sym e ∙ s in
       adds_last d (step_of (Meet a b)) ((at a).figure.step + (at b).figure.step - d) rank
-      (meet_products d (value_at log a) (value_at log b)) (figure_of (Meet a b))
+      (meet_products d (value_at log.values a) (value_at log.values b)) (figure_of (Meet a b))
       (meet_work d rank (at a) (at b) x y (omega arith)) log sections
       (ap (λ p. p || (step_of (Meet a b) == d)) (eq-eqb (step_of (Meet a b)) 0 (let z : step_of (Meet a b) ≡ 0 = omega arith in z)))
   last_instr (On a b s t) h = absurd h.steps

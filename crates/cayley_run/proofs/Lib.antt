@@ -1,3 +1,6 @@
+pub mod UseSizes
+pub mod WorkLaws
+pub mod RewritingLaws
 pub mod SectionLaws
 pub mod ObjectLaws
 pub mod ConicStarts
@@ -13,4 +16,10 @@ pub mod SectionSteps
 pub mod Operands
 pub mod SixValues
 pub mod RunReady
+pub mod LogEnds
+pub mod EndAlike
 pub mod RunSteps
+pub mod NamedLogs
+pub mod EndingLaws
+pub mod CourseLaws
+pub mod IntoLaws

@@ -152,14 +152,14 @@ module _ (d a step : ℕ) (rank : IsRank d) (ps : List Product) (sized : AllByRe
     abbrev object_by : Option Limit → Log
     object_by o = elim o [
       | Some limit ↦ with_sections step log (record { sections = []; left = log.left; stop = Some (limit_stop limit) })
-      | None ↦ with_sections step log (run_starts log.left (section_starts d step ps))
+      | None ↦ with_sections step log (run_starts log.options.contract log.left (section_starts d step ps))
     ]
 
     pub has_object : AllEndWell d log.objects → HasObject log (with_object d step ps log)
     has_object h = by_limit (first_stop [] ps)
       where
         s : Sections
-        s = run_starts log.left (section_starts d step ps)
+        s = run_starts log.options.contract log.left (section_starts d step ps)
 
         by_limit : (o : Option Limit) → HasObject log (object_by o)
         by_limit (Some limit) = record {
@@ -170,16 +170,17 @@ module _ (d a step : ℕ) (rank : IsRank d) (ps : List Product) (sized : AllByRe
           entries = λ e. cc;
         }
         by_limit None = record {
-          well = worked_well d step log s h (starts_well d a rank log.left (section_starts d step ps) starts-are);
+          well = worked_well d step log s h
+              (starts_well d a rank log.options.contract log.left (section_starts d step ps) starts-are);
           value = value_from s.sections;
           values = refl;
           same = λ e K.
               same_coordinates d (section_starts d step ps) s.sections
-              (starts_ended d a rank log.left (section_starts d step ps) starts-are e) K
+              (starts_ended d a rank log.options.contract log.left (section_starts d step ps) starts-are e) K
               ∙ starts-same K;
           entries = λ e.
               entries_ended d a (section_starts d step ps) s.sections
-              (starts_ended d a rank log.left (section_starts d step ps) starts-are e) starts-are;
+              (starts_ended d a rank log.options.contract log.left (section_starts d step ps) starts-are e) starts-are;
         }
 
     pub has_end : is_conclusion d step ≡ true → (with_object d step ps log).stop ≡ None
@@ -187,7 +188,7 @@ module _ (d a step : ℕ) (rank : IsRank d) (ps : List Product) (sized : AllByRe
     has_end c = by_limit (first_stop [] ps)
       where
         s : Sections
-        s = run_starts log.left (section_starts d step ps)
+        s = run_starts log.options.contract log.left (section_starts d step ps)
 
         by_limit : (o : Option Limit) → (object_by o).stop ≡ None → HasEnd (object_by o)
         by_limit (Some limit) e = cc
@@ -195,7 +196,7 @@ module _ (d a step : ℕ) (rank : IsRank d) (ps : List Product) (sized : AllByRe
             let one = one_start c in
             let last = one_section d step log s one.0
             (subst (λ (es : List Start). AreEnded d es s.sections) one.1
-            (starts_ended d a rank log.left (section_starts d step ps) starts-are e)) in
+            (starts_ended d a rank log.options.contract log.left (section_starts d step ps) starts-are e)) in
             record {
               end = last.end;
               last = last.last;

@@ -2,7 +2,6 @@
 use Rattle.std.proofs.Common.{◌≡◌, ℕ, zero, suc, ◌+◌, ◌<◌, ◌≤◌, List, [], ◌∷◌, map, length, get_or, sym, ap, ap₂}
 use Rattle.std.proofs.Common.{subst, ◌∙◌, arith, replicate, slice_set}
 use Rattle.std.proofs.lemmas.List.{length-map}
-use Rattle.std.specs.Prelude.{Result, OnOk}
 use Rattle.std.specs.List.{AllByRecursion}
 use Rattle.coordinate_model.specs.BracketPolynomial.{parameter_of}
 use Rattle.coordinate_model.specs.Starts.{Entry, Product, join_products}
@@ -19,9 +18,11 @@ use Rattle.cayley_terms.specs.Starts.{value_at, products_of}
 use Rattle.cayley_terms.specs.Starts as operation
 use Rattle.shuffle_meet.specs.Objects.{AreJoined, AreMet, AreMixed}
 use Rattle.cayley_run.specs.Ready.{IsOperand, step_at, ArePair, IsJoin, IsMeet, IsMixed, IsConic, Makes, IsReady}
-use Rattle.cayley_run.specs.Runs.{Log, with_object, with_instr}
-use Rattle.cayley_run.specs.Seen.{log_of, steps_of}
-use Rattle.cayley_run.specs.declared.progress.Progress.{Progress}
+use Rattle.cayley_run.specs.Runs.{Log, with_object, with_conic, with_instr}
+use Rattle.cayley_run.specs.Making.{AddsMade, with_made}
+use Rattle.cayley_run.specs.Seen.{steps_in}
+use Rattle.cayley_run.specs.declared.making.Made.{Made}
+use Rattle.conic_points.specs.Points.{values_of}
 
 -- a value of the code, as the log has it
 abbrev pub said : {d : ℕ} → Value d → model.Value
@@ -73,34 +74,31 @@ fit_parameter s A h =
         (all_set (λ e. e ≤ 1) (replicate 64 0) s 1 (omega arith) (all_replicate (λ e. e ≤ 1) 64 0 (omega arith)))
 
 -- the values that a join or a meet names may be joined or may meet, and have small products
-module _ {d : ℕ} (p : Progress d) (a b : ℕ) (x y : Value d) (first : x ≡ get_or p.values.items a x)
-    (second : y ≡ get_or p.values.items b y) where
-  abbrev values : List (Value d)
-  values = p.values.items
+module _ {d : ℕ} (values : List (Value d)) (a b : ℕ) (x y : Value d) (first : x ≡ get_or values a x)
+    (second : y ≡ get_or values b y) where
+  within : (n : ℕ) → IsOperand d (steps_in values) n → n < length values
+  within n h = let l : length (steps_in values) ≡ length values = length-map values (λ v. v.step) in
+      let k : n < length (steps_in values) = h.earlier in omega arith
 
-  within : (n : ℕ) → IsOperand d (steps_of p) n → n < length values
-  within n h = let l : length (steps_of p) ≡ length values = length-map values (λ v. v.step) in
-      let k : n < length (steps_of p) = h.earlier in omega arith
-
-  step_first : IsOperand d (steps_of p) a → step_at (steps_of p) a ≡ x.step
+  step_first : IsOperand d (steps_in values) a → step_at (steps_in values) a ≡ x.step
   step_first h = step_there values a x (within a h) first
 
-  step_second : IsOperand d (steps_of p) b → step_at (steps_of p) b ≡ y.step
+  step_second : IsOperand d (steps_in values) b → step_at (steps_in values) b ≡ y.step
   step_second h = step_there values b y (within b h) second
 
-  values_first : IsOperand d (steps_of p) a → said x ≡ value_at (log_of p).values a
+  values_first : IsOperand d (steps_in values) a → said x ≡ value_at (values_of values) a
   values_first h = sym (said_there values a x (within a h) first)
 
-  values_second : IsOperand d (steps_of p) b → said y ≡ value_at (log_of p).values b
+  values_second : IsOperand d (steps_in values) b → said y ≡ value_at (values_of values) b
   values_second h = sym (said_there values b y (within b h) second)
 
-  pub pair_fits : (ps : List Product) → ArePair d (steps_of p) a b ps → AllByRecursion IsSmall (log_of p).values
+  pub pair_fits : (ps : List Product) → ArePair d (steps_in values) a b ps → AllByRecursion IsSmall (values_of values)
       → AllByRecursion (λ e. AllByRecursion (λ f. ExponentsFit e.1 f.1) (said y)) (said x)
   pair_fits ps h all =
       fit_all (said x) (said y) (small_there values a x (within a h.first) first all)
       (small_there values b y (within b h.second) second all)
 
-  pub are_joined : (step : ℕ) → IsJoin d (steps_of p) (log_of p) a b step → AreJoined d x.step y.step
+  pub are_joined : (step : ℕ) → IsJoin d (steps_in values) (values_of values) a b step → AreJoined d x.step y.step
   are_joined step h =
       let i = step_first h.pair.first in
       let j = step_second h.pair.second in
@@ -112,7 +110,7 @@ module _ {d : ℕ} (p : Progress d) (a b : ℕ) (x y : Value d) (first : x ≡ g
         few = subst (λ n. n ≤ d) (ap₂ ◌+◌ i j) h.few;
       }
 
-  pub are_met : (step : ℕ) → IsMeet d (steps_of p) (log_of p) a b step → AreMet d x.step y.step
+  pub are_met : (step : ℕ) → IsMeet d (steps_in values) (values_of values) a b step → AreMet d x.step y.step
   are_met step h =
       let i = step_first h.pair.first in
       let j = step_second h.pair.second in
@@ -124,46 +122,72 @@ module _ {d : ℕ} (p : Progress d) (a b : ℕ) (x y : Value d) (first : x ≡ g
         many = subst (λ n. d ≤ n) (ap₂ ◌+◌ i j) h.many;
       }
 
-  pub are_mixed : (s t step : ℕ) → IsMixed d (steps_of p) (log_of p) a b s t step → AreMixed x.step y.step
+  pub are_mixed : (s t step : ℕ) → IsMixed d (steps_in values) (values_of values) a b s t step → AreMixed x.step y.step
   are_mixed s t step h = record {
     first = sym (step_first h.pair.first) ∙ h.first;
     second = sym (step_second h.pair.second) ∙ h.second;
   }
 
-  pub first_fits : (s : ℕ) (ps : List Product) → ArePair d (steps_of p) a b ps → AllByRecursion IsSmall (log_of p).values
+  pub first_fits : (s : ℕ) (ps : List Product) → ArePair d (steps_in values) a b ps → AllByRecursion IsSmall
+      (values_of values)
       → AllByRecursion (λ e. ExponentsFit e.1 (parameter_of 64 s)) (said x)
   first_fits s ps h all = fit_parameter s (said x) (small_there values a x (within a h.first) first all)
 
-  pub second_fits : (t : ℕ) (ps : List Product) → ArePair d (steps_of p) a b ps → AllByRecursion IsSmall (log_of p).values
+  pub second_fits : (t : ℕ) (ps : List Product) → ArePair d (steps_in values) a b ps → AllByRecursion IsSmall
+      (values_of values)
       → AllByRecursion (λ e. ExponentsFit e.1 (parameter_of 64 t)) (said y)
   second_fits t ps h all = fit_parameter t (said y) (small_there values b y (within b h.second) second all)
 
-  pub joined-same : (ps : List Product) → ArePair d (steps_of p) a b ps
-      → join_products d (said x) (said y) ≡ products_of operation.Join d (log_of p).values a b
+  pub joined-same : (ps : List Product) → ArePair d (steps_in values) a b ps
+      → join_products d (said x) (said y) ≡ products_of operation.Join d (values_of values) a b
   joined-same ps h = ap₂ (join_products d) (values_first h.first) (values_second h.second)
 
--- the log behind a join
-pub log_of_join : {X E : Type 0} (d : ℕ) (result : Result X E) (new old : Log) (instr : Instr) (a b step : ℕ)
-    (ps : List Product) → instr ≡ Join a b → ps ≡ products_of operation.Join d old.values a b
-    → OnOk result (new ≡ with_object d step ps old) → OnOk result (new ≡ with_instr d old (instr, step))
-log_of_join d result new old instr a b step ps is same h =
-    subst (λ (i : Instr). OnOk result (new ≡ with_instr d old (i, step))) (sym is)
-    (subst (λ qs. OnOk result (new ≡ with_object d step qs old)) same h)
-
 -- what an instruction that can be run makes
-pub makes_join : (d : ℕ) (steps : List ℕ) (log : Log) (instr : Instr) (a b step : ℕ) → IsReady d steps log instr step
-    → instr ≡ Join a b → IsJoin d steps log a b step
-makes_join d steps log instr a b step h e = subst (λ i. Makes d steps log i step) e h.makes
+pub makes_join : (d : ℕ) (steps : List ℕ) (values : List model.Value) (instr : Instr) (a b step : ℕ)
+    → IsReady d steps values instr step → instr ≡ Join a b → IsJoin d steps values a b step
+makes_join d steps values instr a b step h e = subst (λ i. Makes d steps values i step) e h.makes
 
-pub makes_meet : (d : ℕ) (steps : List ℕ) (log : Log) (instr : Instr) (a b step : ℕ) → IsReady d steps log instr step
-    → instr ≡ Meet a b → IsMeet d steps log a b step
-makes_meet d steps log instr a b step h e = subst (λ i. Makes d steps log i step) e h.makes
+pub makes_meet : (d : ℕ) (steps : List ℕ) (values : List model.Value) (instr : Instr) (a b step : ℕ)
+    → IsReady d steps values instr step → instr ≡ Meet a b → IsMeet d steps values a b step
+makes_meet d steps values instr a b step h e = subst (λ i. Makes d steps values i step) e h.makes
 
-pub makes_mixed : (d : ℕ) (steps : List ℕ) (log : Log) (instr : Instr) (a b s t step : ℕ)
-    → IsReady d steps log instr step → instr ≡ On a b s t → IsMixed d steps log a b s t step
-makes_mixed d steps log instr a b s t step h e = subst (λ i. Makes d steps log i step) e h.makes
+pub makes_mixed : (d : ℕ) (steps : List ℕ) (values : List model.Value) (instr : Instr) (a b s t step : ℕ)
+    → IsReady d steps values instr step → instr ≡ On a b s t → IsMixed d steps values a b s t step
+makes_mixed d steps values instr a b s t step h e = subst (λ i. Makes d steps values i step) e h.makes
 
-pub makes_conic : (d : ℕ) (steps : List ℕ) (log : Log) (instr : Instr) (p1 p2 p3 p4 p5 p6 step : ℕ)
-    → IsReady d steps log instr step → instr ≡ Conic p1 p2 p3 p4 p5 p6
-    → IsConic d steps log (p1 ∷ p2 ∷ p3 ∷ p4 ∷ p5 ∷ p6 ∷ []) step
-makes_conic d steps log instr p1 p2 p3 p4 p5 p6 step h e = subst (λ i. Makes d steps log i step) e h.makes
+pub makes_conic : (d : ℕ) (steps : List ℕ) (values : List model.Value) (instr : Instr) (p1 p2 p3 p4 p5 p6 step : ℕ)
+    → IsReady d steps values instr step → instr ≡ Conic p1 p2 p3 p4 p5 p6
+    → IsConic d steps values (p1 ∷ p2 ∷ p3 ∷ p4 ∷ p5 ∷ p6 ∷ []) step
+makes_conic d steps values instr p1 p2 p3 p4 p5 p6 step h e = subst (λ i. Makes d steps values i step) e h.makes
+
+-- what is made of the products of a join, a meet or a point by parameters is made by the instruction
+module _ {d : ℕ} (values : List model.Value) (made : Made d) (step : ℕ) where
+  pub join_adds : (instr : Instr) (a b : ℕ) (ps : List Product) → instr ≡ Join a b
+      → ps ≡ products_of operation.Join d values a b
+      → ((log : Log) → with_object d step ps log ≡ with_made step made log) → AddsMade values instr step made
+  join_adds instr a b ps is same h log e =
+      ap (λ (i : Instr). with_instr d log (i, step)) is
+      ∙ ap (λ (vs : List model.Value). with_object d step (products_of operation.Join d vs a b) log) e
+      ∙ ap (λ qs. with_object d step qs log) (sym same) ∙ h log
+
+  pub meet_adds : (instr : Instr) (a b : ℕ) (ps : List Product) → instr ≡ Meet a b
+      → ps ≡ products_of operation.Meet d values a b
+      → ((log : Log) → with_object d step ps log ≡ with_made step made log) → AddsMade values instr step made
+  meet_adds instr a b ps is same h log e =
+      ap (λ (i : Instr). with_instr d log (i, step)) is
+      ∙ ap (λ (vs : List model.Value). with_object d step (products_of operation.Meet d vs a b) log) e
+      ∙ ap (λ qs. with_object d step qs log) (sym same) ∙ h log
+
+  pub mixed_adds : (instr : Instr) (a b s t : ℕ) (ps : List Product) → instr ≡ On a b s t
+      → ps ≡ products_of (operation.On s t) d values a b
+      → ((log : Log) → with_object d step ps log ≡ with_made step made log) → AddsMade values instr step made
+  mixed_adds instr a b s t ps is same h log e =
+      ap (λ (i : Instr). with_instr d log (i, step)) is
+      ∙ ap (λ (vs : List model.Value). with_object d step (products_of (operation.On s t) d vs a b) log) e
+      ∙ ap (λ qs. with_object d step qs log) (sym same) ∙ h log
+
+  pub conic_adds : (instr : Instr) (p1 p2 p3 p4 p5 p6 : ℕ) → instr ≡ Conic p1 p2 p3 p4 p5 p6
+      → ((log : Log) → log.values ≡ values
+      → with_conic step (p1 ∷ p2 ∷ p3 ∷ p4 ∷ p5 ∷ p6 ∷ []) log ≡ with_made step made log)
+      → AddsMade values instr step made
+  conic_adds instr p1 p2 p3 p4 p5 p6 is h log e = ap (λ (i : Instr). with_instr d log (i, step)) is ∙ h log e

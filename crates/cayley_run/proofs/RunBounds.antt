@@ -76,8 +76,8 @@ module _ (n m : ℕ) (size : Measure) (d : ℕ) (rank : IsRank d) (made : Result
       by_made (Err limit) e =
           adds_sections n m size 0 log (record { sections = []; left = log.left; stop = Some (limit_stop limit) }) tt
       by_made (Ok f) e =
-          adds_sections n m size 0 log (run_starts log.left (([], f) ∷ []))
-          (starts_within n m size d 0 rank log.left (([], f) ∷ []) (keys f e, tt)
+          adds_sections n m size 0 log (run_starts log.options.contract log.left (([], f) ∷ []))
+          (starts_within n m size d 0 rank log.options.contract log.left (([], f) ∷ []) (keys f e, tt)
           (record { points = tt; keys = within f e }, tt))
 
 module _ (n m : ℕ) (size : Measure) (d a step : ℕ) (rank : IsRank d) (ps : List Product)
@@ -88,13 +88,14 @@ module _ (n m : ℕ) (size : Measure) (d a step : ℕ) (rank : IsRank d) (ps : L
     where
       by_limit : (o : Option Limit) → AddsObject n m size log (elim o [
         | Some limit ↦ with_sections step log (record { sections = []; left = log.left; stop = Some (limit_stop limit) })
-        | None ↦ with_sections step log (run_starts log.left (section_starts d step ps))
+        | None ↦ with_sections step log (run_starts log.options.contract log.left (section_starts d step ps))
       ])
       by_limit (Some limit) =
           adds_sections n m size step log (record { sections = []; left = log.left; stop = Some (limit_stop limit) }) tt
       by_limit None =
-          adds_sections n m size step log (run_starts log.left (section_starts d step ps))
-          (starts_within n m size d a rank log.left (section_starts d step ps) (starts-are d a step rank ps sized none)
+          adds_sections n m size step log (run_starts log.options.contract log.left (section_starts d step ps))
+          (starts_within n m size d a rank log.options.contract log.left (section_starts d step ps)
+          (starts-are d a step rank ps sized none)
           (section_starts_within n m size d step ps within))
 
 -- ---- instructions
@@ -369,15 +370,15 @@ module _ (n m d : ℕ) (rank : IsRank d) where
 
 pub run_is_within : RunIsWithin
 unfolding run_of
-run_is_within budget p n m b =
+run_is_within options p n m b =
     let sizes : List Measure = new_behind (instr_measure p.rank) [] p.instrs in
     let same = made-new (instr_measure p.rank) [] p.instrs in
-    let g : Grows n m (at_start budget) (object_measures p.instrs (new_behind (instr_measure p.rank) [] p.instrs))
-    (run_on p.rank (at_start budget) (with_steps p.rank [] p.instrs)) =
-    run_on_within n m p.rank p.formed.rank [] (at_start budget) p.instrs tt tt refl tt refl p.formed.each b in
-    subst (λ (ms : List Measure). AreWithin n m (run_on p.rank (at_start budget) (zip p.instrs p.steps)).objects
+    let g : Grows n m (at_start options) (object_measures p.instrs (new_behind (instr_measure p.rank) [] p.instrs))
+    (run_on p.rank (at_start options) (with_steps p.rank [] p.instrs)) =
+    run_on_within n m p.rank p.formed.rank [] (at_start options) p.instrs tt tt refl tt refl p.formed.each b in
+    subst (λ (ms : List Measure). AreWithin n m (run_on p.rank (at_start options) (zip p.instrs p.steps)).objects
     (object_measures p.instrs ms)) (sym same)
-    (subst (λ (ns : List ℕ). AreWithin n m (run_on p.rank (at_start budget) (zip p.instrs ns)).objects
+    (subst (λ (ns : List ℕ). AreWithin n m (run_on p.rank (at_start options) (zip p.instrs ns)).objects
     (object_measures p.instrs (new_behind (instr_measure p.rank) [] p.instrs)))
     (sym (p.formed.stepped ∙ ap (λ (ms : List Measure). map (λ m. m.step) ms) same))
     (subst (λ (os : List Worked).

@@ -196,7 +196,7 @@ length-new f before (instr ∷ instrs) =
 
 pub run_means : RunMeans
 unfolding run_of
-run_means budget p = record {
+run_means options p = record {
   sections = means.sections;
   values = λ e n l.
       let f = means.finishes e in
@@ -228,12 +228,12 @@ run_means budget p = record {
         ap (λ fs. length fs) (made-new (instr_figure Variables p.rank) [] p.instrs)
         ∙ length-new (instr_figure Variables p.rank) [] p.instrs
 
-    means : Means p.rank (all_figures-of p) (run_on p.rank (at_start budget) (zip p.instrs p.steps))
+    means : Means p.rank (all_figures-of p) (run_on p.rank (at_start options) (zip p.instrs p.steps))
     means =
-        subst (λ (ns : List ℕ). Means p.rank (all_figures-of p) (run_on p.rank (at_start budget) (zip p.instrs ns)))
+        subst (λ (ns : List ℕ). Means p.rank (all_figures-of p) (run_on p.rank (at_start options) (zip p.instrs ns)))
         (sym (p.formed.stepped ∙ ap (λ (ms : List Measure). map (λ m. m.step) ms)
         (made-new (instr_measure p.rank) [] p.instrs)))
-        (run_on_means p.rank p.formed.rank [] (at_start budget) p.instrs tt refl tt refl p.formed.each)
+        (run_on_means p.rank p.formed.rank [] (at_start options) p.instrs tt refl tt refl p.formed.each)
 
 -- ---- the end of the last section
 

@@ -20,6 +20,7 @@ use Rattle.cayley_terms.specs.declared.program.Program.{Program}
 use Rattle.cayley_terms.specs.Instrs.{no_measure, instr_measure, join_measure, meet_measure, on_measure}
 use Rattle.cayley_terms.specs.Programs.{NamesEarlier, EndsInOne, IsInner, IsLast}
 use Rattle.cayley_run.specs.Runs.{Log, at_start, with_instr}
+use Rattle.cayley_run.specs.declared.answer.Options.{Options}
 use Rattle.cayley_run.specs.RunLaws.{AllEndWell}
 use Rattle.cayley_run.specs.Bounds.{HasNumbers, IsKeyWithin, IsPolynomialWithin, object_measures}
 use Rattle.cayley_run.specs.Ready.{AreSmall, IsOperand, IsPoint, step_at, Makes, IsReady}
@@ -131,7 +132,7 @@ module _ (d : ℕ) (rank : IsRank d) (log : Log) (steps : List ℕ) (instr : Ins
   inside k l = within_at 200 64 d rank made log w.all w.within w.values k l
 
   makes : (i : Instr) → IsNext d (measures_of made) i → step ≡ (instr_measure d (measures_of made) i).step
-      → Makes d steps log i step
+      → Makes d steps log.values i step
   makes (Free i) n e = e
   makes (Join a b) n e = record {
     pair = record {
@@ -206,10 +207,8 @@ module _ (d : ℕ) (rank : IsRank d) (log : Log) (steps : List ℕ) (instr : Ins
       }
 
   -- the next instruction can be run
-  pub is_ready : IsReady d steps log instr step
+  pub is_ready : IsReady d steps log.values instr step
   is_ready = record {
-    counted = ap (λ (vs : List Value). length vs) w.values ∙ length-map made (λ x. x.value) ∙ sym length-steps;
-    few = let f = w.few in let c = w.count in omega arith;
     small =
         subst (AllByRecursion IsSmall) (sym w.values)
         (all_map (λ x. (x.measure.degree ≤ 1000) × IsMadeWithin 200 64 x) IsSmall (λ x. x.value)
@@ -217,6 +216,10 @@ module _ (d : ℕ) (rank : IsRank d) (log : Log) (steps : List ℕ) (instr : Ins
         (all_both (λ x. x.measure.degree ≤ 1000) (IsMadeWithin 200 64) made w.degrees w.within));
     makes = makes instr next here;
   }
+
+  -- and there is room for one more object
+  pub has_room : length log.objects + 1 < 2 ^ 32
+  has_room = let f = w.few in let c = w.count in omega arith
 
 -- ---- one instruction further
 
@@ -323,9 +326,9 @@ numbers_of d before (instr ∷ next ∷ instrs) h =
     number (On a b s t) h = (h.steps.2, h.steps.3)
     number (Conic p1 p2 p3 p4 p5 p6) h = absurd h.steps
 
-pub begins : (budget : ℕ) (p : Program)
-    → IsOnWay p.rank (at_start budget) [] p.instrs p.steps
-begins budget p = record {
+pub begins : (options : Options) (p : Program)
+    → IsOnWay p.rank (at_start options) [] p.instrs p.steps
+begins options p = record {
   made = [];
   all = tt;
   within = tt;

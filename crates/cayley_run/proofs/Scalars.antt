@@ -21,9 +21,10 @@ use Rattle.bracket_poly.specs.Sections.{Rewritten, entry_from, value_from}
 use Rattle.bracket_poly.specs.Tracked.{nothing, plus_term}
 use Rattle.bracket_poly.specs.Values.{IsValue, entry_of, value_of, extensor_size}
 use Rattle.cayley_terms.specs.Starts.{one_of}
-use Rattle.straightening.specs.Runs.{Run, Stop, run}
-use Rattle.cayley_run.specs.Sections.{rewritten, Sections, in_front, run_starts}
+use Rattle.straightening.specs.Runs.{Stop}
+use Rattle.cayley_run.specs.Sections.{Work, work, rewritten, Sections, in_front, run_starts}
 use Rattle.shuffle_meet.specs.Stops.{Start}
+use Rattle.cayley_run.specs.Making.{AreStarts}
 use Rattle.cayley_run.specs.Ready.{AreSections, start_entry}
 use Rattle.cayley_run.specs.Seen.{starts_of}
 use Rattle.shuffle_meet.proofs.StartSums.{entries_at}
@@ -166,67 +167,74 @@ free_formed d point old new x p none only rank e h =
 -- ---- the sections of starts
 
 -- what holds of the first section alone, and of it before others
-first_one : (Q : Sections → Type 0) (left : ℕ) (start : Start) (r : Run) (others : Sections)
-    → ((stop : Stop) → Q (record { sections = rewritten start r ∷ []; left = left; stop = Some stop }))
-    → Q (in_front (rewritten start r) others)
-    → Q (elim r.stop as (λ _. Sections) [
-      | Some stop ↦ record { sections = rewritten start r ∷ []; left = left; stop = Some stop }
-      | None ↦ in_front (rewritten start r) others
+first_one : (Q : Sections → Type 0) (left : ℕ) (start : Start) (w : Work) (others : Sections)
+    → ((stop : Stop) → Q (record { sections = rewritten start w ∷ []; left = left; stop = Some stop }))
+    → Q (in_front (rewritten start w) others)
+    → Q (elim w.turns.stop as (λ _. Sections) [
+      | Some stop ↦ record { sections = rewritten start w ∷ []; left = left; stop = Some stop }
+      | None ↦ in_front (rewritten start w) others
     ])
-first_one Q left start r others some none = by_stop r.stop
+first_one Q left start w others some none = by_stop w.turns.stop
   where
     by_stop : (o : Option Stop)
         → Q (elim o as (λ _. Sections) [
-          | Some stop ↦ record { sections = rewritten start r ∷ []; left = left; stop = Some stop }
-          | None ↦ in_front (rewritten start r) others
+          | Some stop ↦ record { sections = rewritten start w ∷ []; left = left; stop = Some stop }
+          | None ↦ in_front (rewritten start w) others
         ])
     by_stop (Some stop) = some stop
     by_stop None = none
 
-sections_sizes : (n budget : ℕ) (starts : List Start) → AllByRecursion (λ e. length e.0 ≡ n) (entries_at starts)
-    → AllByRecursion (λ s. length s.scalar ≡ n) (run_starts budget starts).sections
-sections_sizes n budget [] h = tt
-sections_sizes n budget (start ∷ starts) h =
-    let r : Run = run budget start.1 in
-    let left : ℕ = budget - length r.uses in
-    first_one (λ ss. AllByRecursion (λ s. length s.scalar ≡ n) ss.sections) left start r (run_starts left starts)
-    (λ stop. (h.0, tt)) (h.0, sections_sizes n left starts h.1)
+sections_sizes : (n : ℕ) (contract : Bool) (budget : ℕ) (starts : List Start) → AllByRecursion (λ e. length e.0 ≡ n)
+    (entries_at starts)
+    → AllByRecursion (λ s. length s.scalar ≡ n) (run_starts contract budget starts).sections
+sections_sizes n contract budget [] h = tt
+sections_sizes n contract budget (start ∷ starts) h =
+    let w : Work = work contract budget start.1 in
+    let left : ℕ = budget - length w.turns.uses in
+    first_one (λ ss. AllByRecursion (λ s. length s.scalar ≡ n) ss.sections) left start w
+    (run_starts contract left starts)
+    (λ stop. (h.0, tt)) (h.0, sections_sizes n contract left starts h.1)
 
-sections_below : (x : List ℕ) (budget : ℕ) (starts : List Start) → T (below_all row_cmp x (entries_at starts))
-    → T (below_all row_cmp x (map start_entry (run_starts budget starts).sections))
-sections_below x budget [] h = tt
-sections_below x budget (start ∷ starts) h =
-    let r : Run = run budget start.1 in
-    let left : ℕ = budget - length r.uses in
+sections_below : (x : List ℕ) (contract : Bool) (budget : ℕ) (starts : List Start) → T
+    (below_all row_cmp x (entries_at starts))
+    → T (below_all row_cmp x (map start_entry (run_starts contract budget starts).sections))
+sections_below x contract budget [] h = tt
+sections_below x contract budget (start ∷ starts) h =
+    let w : Work = work contract budget start.1 in
+    let left : ℕ = budget - length w.turns.uses in
     let here = first (is_lt (row_cmp x start.0)) (below_all row_cmp x (entries_at starts)) h in
     let rest =
-    sections_below x left starts (second (is_lt (row_cmp x start.0)) (below_all row_cmp x (entries_at starts)) h) in
-    first_one (λ ss. T (below_all row_cmp x (map start_entry ss.sections))) left start r (run_starts left starts)
+    sections_below x contract left starts
+    (second (is_lt (row_cmp x start.0)) (below_all row_cmp x (entries_at starts)) h) in
+    first_one (λ ss. T (below_all row_cmp x (map start_entry ss.sections))) left start w
+    (run_starts contract left starts)
     (λ stop. both (is_lt (row_cmp x start.0)) true here tt)
-    (both (is_lt (row_cmp x start.0)) (below_all row_cmp x (map start_entry (run_starts left starts).sections)) here rest)
+    (both (is_lt (row_cmp x start.0))
+    (below_all row_cmp x (map start_entry (run_starts contract left starts).sections)) here rest)
 
-sections_sorted : (budget : ℕ) (starts : List Start) → T (is_sorted row_cmp (entries_at starts))
-    → T (is_sorted row_cmp (map start_entry (run_starts budget starts).sections))
-sections_sorted budget [] h = tt
-sections_sorted budget (start ∷ starts) h =
-    let r : Run = run budget start.1 in
-    let left : ℕ = budget - length r.uses in
+sections_sorted : (contract : Bool) (budget : ℕ) (starts : List Start) → T (is_sorted row_cmp (entries_at starts))
+    → T (is_sorted row_cmp (map start_entry (run_starts contract budget starts).sections))
+sections_sorted contract budget [] h = tt
+sections_sorted contract budget (start ∷ starts) h =
+    let w : Work = work contract budget start.1 in
+    let left : ℕ = budget - length w.turns.uses in
     let below = first (below_all row_cmp start.0 (entries_at starts)) (is_sorted row_cmp (entries_at starts)) h in
     let rest =
-    sections_sorted left starts
+    sections_sorted contract left starts
     (second (below_all row_cmp start.0 (entries_at starts)) (is_sorted row_cmp (entries_at starts)) h) in
-    first_one (λ ss. T (is_sorted row_cmp (map start_entry ss.sections))) left start r (run_starts left starts)
+    first_one (λ ss. T (is_sorted row_cmp (map start_entry ss.sections))) left start w (run_starts contract left starts)
     (λ stop. tt)
-    (both (below_all row_cmp start.0 (map start_entry (run_starts left starts).sections))
-    (is_sorted row_cmp (map start_entry (run_starts left starts).sections)) (sections_below start.0 left starts below) rest)
+    (both (below_all row_cmp start.0 (map start_entry (run_starts contract left starts).sections))
+    (is_sorted row_cmp (map start_entry (run_starts contract left starts).sections))
+    (sections_below start.0 contract left starts below) rest)
 
 -- the sections of starts whose extensors are those of a value
-pub sections_of_starts : (d step budget : ℕ) (starts : List Start)
+pub sections_of_starts : (d step : ℕ) (contract : Bool) (budget : ℕ) (starts : List Start)
     → AllByRecursion (λ e. length e.0 ≡ extensor_size d step) (entries_at starts)
-    → T (is_sorted row_cmp (entries_at starts)) → AreSections d step (run_starts budget starts).sections
-sections_of_starts d step budget starts sizes ascending = record {
-  sizes = sections_sizes (extensor_size d step) budget starts sizes;
-  ascending = sections_sorted budget starts ascending;
+    → T (is_sorted row_cmp (entries_at starts)) → AreSections d step (run_starts contract budget starts).sections
+sections_of_starts d step contract budget starts sizes ascending = record {
+  sizes = sections_sizes (extensor_size d step) contract budget starts sizes;
+  ascending = sections_sorted contract budget starts ascending;
 }
 
 -- and no sections are such
@@ -239,17 +247,17 @@ entries-same : {d : ℕ} (es : List (Extensor × TrackedOf d)) → entries_at (s
 entries-same [] = refl
 entries-same {d = d} (e ∷ es) = ap (λ v. entry_of {d = d} e ∷ v) (entries-same es)
 
--- their sections have its extensors
-pub sections_of_value : {d : ℕ} (step budget : ℕ) (entries : List (Extensor × TrackedOf d)) → IsValue d step entries
-    → AreSections d step (run_starts budget (starts_of entries)).sections
-sections_of_value {d = d} step budget entries h =
-    sections_of_starts d step budget (starts_of entries)
+-- the sections of starts have their extensors
+pub sections_of_entries : {d : ℕ} (step : ℕ) (contract : Bool) (budget : ℕ) (entries : List (Extensor × TrackedOf d))
+    → AreStarts d step entries → AreSections d step (run_starts contract budget (starts_of entries)).sections
+sections_of_entries {d = d} step contract budget entries h =
+    sections_of_starts d step contract budget (starts_of entries)
     (subst (λ v. HasStep (extensor_size d step) v) (sym (entries-same entries)) h.sizes)
     (subst (λ v. T (is_sorted row_cmp v)) (sym (entries-same entries)) h.ascending)
 
 -- and so have those that the code has of them
-pub sections_made : {d : ℕ} (step made budget : ℕ) (entries : List (Extensor × TrackedOf d)) (ss : Sections)
-    → IsValue d made entries → made ≡ step → ss ≡ run_starts budget (starts_of entries) → AreSections d step ss.sections
-sections_made {d = d} step made budget entries ss h e r =
-    subst (λ s. AreSections d s ss.sections) e
-    (subst (λ xs. AreSections d made xs.sections) (sym r) (sections_of_value made budget entries h))
+pub sections_made : {d : ℕ} (step : ℕ) (contract : Bool) (budget : ℕ) (entries : List (Extensor × TrackedOf d))
+    (ss : Sections) → AreStarts d step entries → ss ≡ run_starts contract budget (starts_of entries)
+    → AreSections d step ss.sections
+sections_made {d = d} step contract budget entries ss h r =
+    subst (λ xs. AreSections d step xs.sections) (sym r) (sections_of_entries step contract budget entries h)

@@ -1,53 +1,31 @@
 -- Sections stay within the bounds of their starts.
-use Rattle.std.proofs.Common.{ℕ, ◌-◌, Bool, true, false, cond, List, [], ◌∷◌, map, length, sym}
+use Rattle.std.proofs.Common.{ℕ, ◌-◌, Bool, true, false, cond, List, [], ◌∷◌, ◌++◌, map, length, sym}
 use Rattle.std.proofs.Common.{subst}
 use Rattle.std.specs.Prelude.{Option, Some, None, IfSome}
 use Rattle.std.specs.List.{AllByRecursion, cons_option}
 use Rattle.coordinate_model.specs.Sequences.{IsRank}
-use Rattle.coordinate_model.specs.Key.{IsKey, IsRow, points}
+use Rattle.coordinate_model.specs.Key.{IsKey, points}
 use Rattle.coordinate_model.specs.BracketPolynomial.{BracketPolynomial, IsBracketPolynomial}
 use Rattle.coordinate_model.specs.Starts.{Product, Entry, reached, has_term}
-use Rattle.coordinate_model.specs.Syzygy.{Use, AreSizes}
 use Rattle.coordinate_model.proofs.Ranks.{rank_pos}
 use Rattle.coordinate_model.proofs.Splits.{all_so, all_both, all_map, all_filter}
 use Rattle.coordinate_model.proofs.StartKeys.{keys-start}
 use Rattle.coordinate_model.proofs.StartSizes.{all_reached}
 use Rattle.step_types.specs.declared.measure.Measure.{Measure}
 use Rattle.bracket_poly.specs.Sections.{Rewritten, value_from}
-use Rattle.bracket_poly.specs.Tracked.{Tracked, nothing}
+use Rattle.bracket_poly.specs.Tracked.{nothing}
 use Rattle.shuffle_meet.specs.Stops.{tracked_at, tracked_entries, Start}
-use Rattle.straightening.specs.Runs.{Stop, run}
+use Rattle.straightening.specs.Runs.{Stop}
 use Rattle.straightening.specs.RunLaws.{HasLike, use_points}
-use Rattle.straightening.proofs.Rewritings.{sizes, rest_rows}
-use Rattle.straightening.proofs.RunLemmas.{by_turns, formed_after, run_ends_well, run_keeps_classes}
 use Rattle.straightening.proofs.TermLists.{holds_of_term}
-use Rattle.straightening.proofs.TurnLaws.{Taken, taken}
-use Rattle.cayley_run.specs.Sections.{rewritten, run_starts}
+use Rattle.cayley_run.specs.Sections.{Work, work, rewritten, run_starts}
 use Rattle.shuffle_meet.specs.SectionStarts.{is_conclusion, section_starts}
 use Rattle.cayley_run.specs.Bounds.{ArePoints, IsKeyWithin, IsPolynomialWithin, IsUseWithin, IsSectionWithin}
 use Rattle.cayley_run.proofs.KeyBounds.{IsEntryWithin, IsProductWithin, key_within, use_within}
 use Rattle.shuffle_meet.proofs.StartSums.{entry_at, tracked_sum}
 use Rattle.cayley_run.proofs.SectionLaws.{IsStart, starts_by}
-
--- ---- the uses of a run
-
--- the lists of the use have their sizes, and its rest has rows of d points
-pub record HasSizes (d : ℕ) (u : Use) : Type 0 where
-  pub sizes : AreSizes d u.alpha u.beta u.gamma
-  pub rest : AllByRecursion (IsRow d) u.rest
-
-use_sizes : (d n : ℕ) → IsRank d → (p : Tracked) (u : Use) → Taken d n p.sum u → HasSizes d u
-use_sizes d n rank p u t =
-    subst (HasSizes d) t.used (record {
-      sizes = sizes d n t.term t.row t.column rank t.key t.violation;
-      rest = rest_rows d n t.term t.row t.column rank t.key t.violation;
-    })
-
-run_sizes : (d n budget : ℕ) (p : Tracked) → IsRank d → IsBracketPolynomial d n p.sum
-    → AllByRecursion (HasSizes d) (run budget p).uses
-run_sizes d n budget p rank keys =
-    by_turns (λ (q : Tracked). IsBracketPolynomial d n q.sum) (λ q r. AllByRecursion (HasSizes d) r.uses) (λ q stop h k. tt) (formed_after d n rank)
-    (λ q u r h e k. (use_sizes d n rank q u (taken d n q.sum u h e), k)) budget p keys
+use Rattle.cayley_run.proofs.UseSizes.{HasSizes}
+use Rattle.cayley_run.proofs.WorkLaws.{IsWork, work_is}
 
 -- ---- sections
 
@@ -56,7 +34,7 @@ module _ (n m : ℕ) (size : Measure) where
   abbrev pub IsStartWithin : Start → Type 0
   IsStartWithin start = IsEntryWithin n m size (entry_at start)
 
-  module _ (d a : ℕ) (rank : IsRank d) where
+  module _ (d a : ℕ) (rank : IsRank d) (contract : Bool) where
     -- a key of the start that is like the key or the use
     module _ (f : BracketPolynomial) (keys : IsBracketPolynomial d 64 f) (within : IsPolynomialWithin n m size f)
         (es ps : List ℕ) (h : HasLike f es ps) where
@@ -67,7 +45,13 @@ module _ (n m : ℕ) (size : Measure) where
       like_within = holds_of_term (IsKeyWithin n m size) f h.key within h.there
 
     module _ (budget : ℕ) (start : Start) (formed : IsStart d a start) (within : IsStartWithin start) where
-      end_within : IsPolynomialWithin n m size (run budget start.1).last.sum
+      abbrev done : Work
+      done = work contract budget start.1
+
+      is : IsWork d 64 contract budget start.1 done
+      is = work_is d 64 contract budget start.1 rank formed.keys
+
+      end_within : IsPolynomialWithin n m size done.turns.last.sum
       end_within =
           all_so _ (λ t. IsKeyWithin n m size t.0)
           (λ t h.
@@ -75,12 +59,11 @@ module _ (n m : ℕ) (size : Measure) where
           (like_key start.1.sum formed.keys within.keys t.0.exponents (points t.0.rows) h.0)
           (like_within start.1.sum formed.keys within.keys t.0.exponents (points t.0.rows) h.0) t.0 h.1 h.0.parameters
           h.0.same_points)
-          (run budget start.1).last.sum.terms
+          done.turns.last.sum.terms
           (all_both (λ t. HasLike start.1.sum t.0.exponents (points t.0.rows)) (λ t. IsKey d 64 t.0)
-          (run budget start.1).last.sum.terms (run_keeps_classes d 64 budget start.1 rank formed.keys).keys
-          (run_ends_well d 64 budget start.1 rank formed.keys).keys)
+          done.turns.last.sum.terms is.end_like is.keys)
 
-      uses_within : AllByRecursion (IsUseWithin n m size) (run budget start.1).uses
+      uses_within : AllByRecursion (IsUseWithin n m size) (done.passes.uses ++ done.turns.uses)
       uses_within =
           all_so _ (IsUseWithin n m size)
           (λ u h.
@@ -88,40 +71,42 @@ module _ (n m : ℕ) (size : Measure) where
           (like_key start.1.sum formed.keys within.keys u.exponents (use_points u) h.0)
           (like_within start.1.sum formed.keys within.keys u.exponents (use_points u) h.0) u h.1.sizes h.1.rest
           h.0.parameters h.0.same_points)
-          (run budget start.1).uses
-          (all_both (λ u. HasLike start.1.sum u.exponents (use_points u)) (HasSizes d) (run budget start.1).uses
-          (run_keeps_classes d 64 budget start.1 rank formed.keys).uses (run_sizes d 64 budget start.1 rank formed.keys))
+          (done.passes.uses ++ done.turns.uses)
+          (all_both (λ u. HasLike start.1.sum u.exponents (use_points u)) (HasSizes d)
+          (done.passes.uses ++ done.turns.uses) is.uses_like is.uses_sizes)
 
-      section_within : IsSectionWithin n m size (rewritten start (run budget start.1))
+      section_within : IsSectionWithin n m size (rewritten start (work contract budget start.1))
       section_within = record {
         extensor = within.points;
         start = within.keys;
         uses = uses_within;
-        end = step (run budget start.1).stop;
+        end = step (work contract budget start.1).turns.stop;
       }
         where
           step : (o : Option Stop)
               → IfSome (elim o as (λ _. Option BracketPolynomial) [
                 | Some stop ↦ None
-                | None ↦ Some (run budget start.1).last.sum
+                | None ↦ Some (work contract budget start.1).turns.last.sum
               ]) (IsPolynomialWithin n m size)
           step (Some stop) = tt
           step None = end_within
 
     pub starts_within : (budget : ℕ) (starts : List Start) → AllByRecursion (IsStart d a) starts
         → AllByRecursion IsStartWithin starts
-        → AllByRecursion (IsSectionWithin n m size) (run_starts budget starts).sections
+        → AllByRecursion (IsSectionWithin n m size) (run_starts contract budget starts).sections
     starts_within budget [] h w = tt
     starts_within budget (start ∷ starts) h w =
-        step (run budget start.1).stop (section_within budget start h.0 w.0) (starts_within left starts h.1 w.1)
+        step (work contract budget start.1).turns.stop (section_within budget start h.0 w.0)
+        (starts_within left starts h.1 w.1)
       where
         left : ℕ
-        left = budget - length (run budget start.1).uses
+        left = budget - length (work contract budget start.1).turns.uses
 
-        step : (o : Option Stop) → IsSectionWithin n m size (rewritten start (run budget start.1))
-            → AllByRecursion (IsSectionWithin n m size) (run_starts left starts).sections
+        step : (o : Option Stop) → IsSectionWithin n m size (rewritten start (work contract budget start.1))
+            → AllByRecursion (IsSectionWithin n m size) (run_starts contract left starts).sections
             → AllByRecursion (IsSectionWithin n m size)
-            (starts_by d a rank left start (run budget start.1) (run_starts left starts) o).sections
+            (starts_by d a rank contract left start (work contract budget start.1) (run_starts contract left starts)
+            o).sections
         step (Some stop) s ih = (s, tt)
         step None s ih = (s, ih)
 

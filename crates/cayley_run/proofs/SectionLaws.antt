@@ -14,11 +14,11 @@ use Rattle.coordinate_model.proofs.StartLaws.{zero_entries}
 use Rattle.coordinate_model.proofs.StartSizes.{IsEntry}
 use Rattle.coordinate_model.proofs.ValueLaws.{free, coordinates-more}
 use Rattle.bracket_poly.specs.Sections.{Rewritten, entry_from, value_from}
-use Rattle.straightening.specs.Runs.{Run, Stop, run}
-use Rattle.straightening.proofs.RunLemmas.{run_keeps_value, run_ends_well}
-use Rattle.cayley_run.specs.Sections.{rewritten, Sections, in_front, run_starts}
+use Rattle.straightening.specs.Runs.{Stop}
+use Rattle.cayley_run.specs.Sections.{Work, work, rewritten, Sections, in_front, run_starts}
 use Rattle.shuffle_meet.specs.Stops.{Start}
 use Rattle.cayley_run.specs.RunLaws.{IsEndOf, EndsWell}
+use Rattle.cayley_run.proofs.WorkLaws.{work_is}
 use Rattle.shuffle_meet.proofs.StartSums.{entry_at, entries_at}
 
 -- the section ends with a normal polynomial of the value of the start
@@ -41,69 +41,73 @@ IsStart d a start = IsEntry d 64 a (entry_at start)
 
 -- ---- runs of starts
 
-module _ (d a : ℕ) (rank : IsRank d) where
-  run_of_start : (budget : ℕ) (start : Start) → IsStart d a start → (run budget start.1).stop ≡ None
-      → IsEndOf d start.1.sum (run budget start.1).last.sum
-  run_of_start budget start h e = record {
-    normal = (run_ends_well d 64 budget start.1 rank h.keys).normal e;
-    same_value = run_keeps_value d 64 budget start.1 rank h.keys;
-  }
+module _ (d a : ℕ) (rank : IsRank d) (contract : Bool) where
+  work_of_start : (budget : ℕ) (start : Start) → IsStart d a start → (work contract budget start.1).turns.stop ≡ None
+      → IsEndOf d start.1.sum (work contract budget start.1).turns.last.sum
+  work_of_start budget start h e =
+      let w = work_is d 64 contract budget start.1 rank h.keys in
+      record { normal = w.normal e; same_value = w.same }
 
-  section_well : (budget : ℕ) (start : Start) → IsStart d a start → EndsWell d (rewritten start (run budget start.1))
-  section_well budget start h = step (run budget start.1).stop refl
+  section_well : (budget : ℕ) (start : Start) → IsStart d a start → EndsWell d
+      (rewritten start (work contract budget start.1))
+  section_well budget start h = step (work contract budget start.1).turns.stop refl
     where
-      step : (o : Option Stop) → (run budget start.1).stop ≡ o
-          → elim (elim o as (λ _. Option BracketPolynomial) [ Some stop ↦ None | None ↦ Some (run budget start.1).last.sum ])
+      step : (o : Option Stop) → (work contract budget start.1).turns.stop ≡ o
+          → elim (elim o as (λ _. Option BracketPolynomial)
+          [ Some stop ↦ None | None ↦ Some (work contract budget start.1).turns.last.sum ])
           as (λ _. Type 0) [ None ↦ Unit {0} | Some end ↦ IsEndOf d start.1.sum end ]
       step (Some stop) e = tt
-      step None e = run_of_start budget start h e
+      step None e = work_of_start budget start h e
 
   -- one start before others
-  abbrev pub starts_by : ℕ → Start → Run → Sections → Option Stop → Sections
-  starts_by left start r others o = elim o [
-    | Some stop ↦ record { sections = rewritten start r ∷ []; left = left; stop = Some stop }
-    | None ↦ in_front (rewritten start r) others
+  abbrev pub starts_by : ℕ → Start → Work → Sections → Option Stop → Sections
+  starts_by left start w others o = elim o [
+    | Some stop ↦ record { sections = rewritten start w ∷ []; left = left; stop = Some stop }
+    | None ↦ in_front (rewritten start w) others
   ]
 
   pub starts_well : (budget : ℕ) (starts : List Start) → AllByRecursion (IsStart d a) starts
-      → AllByRecursion (EndsWell d) (run_starts budget starts).sections
+      → AllByRecursion (EndsWell d) (run_starts contract budget starts).sections
   starts_well budget [] h = tt
   starts_well budget (start ∷ starts) h =
-      step (run budget start.1).stop (section_well budget start h.0) (starts_well left starts h.1)
+      step (work contract budget start.1).turns.stop (section_well budget start h.0) (starts_well left starts h.1)
     where
       left : ℕ
-      left = budget - length (run budget start.1).uses
+      left = budget - length (work contract budget start.1).turns.uses
 
-      step : (o : Option Stop) → EndsWell d (rewritten start (run budget start.1))
-          → AllByRecursion (EndsWell d) (run_starts left starts).sections
-          → AllByRecursion (EndsWell d) (starts_by left start (run budget start.1) (run_starts left starts) o).sections
+      step : (o : Option Stop) → EndsWell d (rewritten start (work contract budget start.1))
+          → AllByRecursion (EndsWell d) (run_starts contract left starts).sections
+          → AllByRecursion (EndsWell d) (starts_by left start (work contract budget start.1)
+          (run_starts contract left starts) o).sections
       step (Some stop) w ih = (w, tt)
       step None w ih = (w, ih)
 
   pub starts_ended : (budget : ℕ) (starts : List Start) → AllByRecursion (IsStart d a) starts
-      → (run_starts budget starts).stop ≡ None → AreEnded d starts (run_starts budget starts).sections
+      → (run_starts contract budget starts).stop ≡ None → AreEnded d starts (run_starts contract budget starts).sections
   starts_ended budget [] h e = tt
   starts_ended budget (start ∷ starts) h e =
-      step (run budget start.1).stop refl e (λ k. starts_ended left starts h.1 k)
+      step (work contract budget start.1).turns.stop refl e (λ k. starts_ended left starts h.1 k)
     where
       left : ℕ
-      left = budget - length (run budget start.1).uses
+      left = budget - length (work contract budget start.1).turns.uses
 
-      step : (o : Option Stop) → (run budget start.1).stop ≡ o
-          → (starts_by left start (run budget start.1) (run_starts left starts) o).stop ≡ None
-          → ((run_starts left starts).stop ≡ None → AreEnded d starts (run_starts left starts).sections)
-          → AreEnded d (start ∷ starts) (starts_by left start (run budget start.1) (run_starts left starts) o).sections
+      step : (o : Option Stop) → (work contract budget start.1).turns.stop ≡ o
+          → (starts_by left start (work contract budget start.1) (run_starts contract left starts) o).stop ≡ None
+          → ((run_starts contract left starts).stop ≡ None → AreEnded d starts
+          (run_starts contract left starts).sections)
+          → AreEnded d (start ∷ starts) (starts_by left start (work contract budget start.1)
+          (run_starts contract left starts) o).sections
       step (Some stop) s k ih = cc
       step None s k ih = (
         record {
           scalar = refl;
-          end = (run budget start.1).last.sum;
+          end = (work contract budget start.1).turns.last.sum;
           ended =
               ap (λ (o : Option Stop). elim o as (λ _. Option BracketPolynomial) [
                 | Some stop ↦ None
-                | None ↦ Some (run budget start.1).last.sum
+                | None ↦ Some (work contract budget start.1).turns.last.sum
               ]) s;
-          well = run_of_start budget start h.0 s;
+          well = work_of_start budget start h.0 s;
         },
         ih k,
       )

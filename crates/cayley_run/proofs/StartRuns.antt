@@ -1,5 +1,6 @@
 -- Starts that are rewritten one after another within one budget.
-use Rattle.std.proofs.Common.{◌≡◌, ℕ, zero, suc, ◌-◌, ◌<◌, ◌≤◌, List, [], ◌∷◌, ◌++◌, length, get_or, sym, ap, subst, ◌∙◌, arith}
+use Rattle.std.proofs.Common.{◌≡◌, ℕ, Bool, zero, suc, ◌-◌, ◌<◌, ◌≤◌, List, [], ◌∷◌, ◌++◌, length, get_or, sym, ap}
+use Rattle.std.proofs.Common.{subst, ◌∙◌, arith}
 use Rattle.std.proofs.Common.{append_assoc}
 use Rattle.std.specs.Prelude.{Option, Some, None}
 use Rattle.coordinate_model.specs.Syzygy.{Use, additions}
@@ -10,7 +11,7 @@ use Rattle.bracket_poly.specs.Sections.{Rewritten}
 use Rattle.bracket_poly.specs.Tracked.{Tracked, Limit, plus_terms, first_limit}
 use Rattle.straightening.specs.Runs.{Run, Stop, turns_stop, limit_stop, ended, after_use, run}
 use Rattle.straightening.specs.Turns.{turn}
-use Rattle.cayley_run.specs.Sections.{rewritten, Sections, in_front, run_starts}
+use Rattle.cayley_run.specs.Sections.{Work, work, rewritten, Sections, in_front, run_starts}
 use Rattle.shuffle_meet.specs.Stops.{Start}
 use Rattle.cayley_run.specs.Ready.{AreSmall}
 use Rattle.cayley_run.specs.Seen.{starts_of}
@@ -55,35 +56,39 @@ behind ss others =
     record { sections = ss ++ others.sections; left = others.left; stop = others.stop }
 
 -- the starts are rewritten up to the last ones, with so many turns left
-abbrev pub AreRewritten : ℕ → List Start → List Rewritten → ℕ → List Start → Type 0
-AreRewritten budget all ss left starts = run_starts budget all ≡ behind ss (run_starts left starts)
+abbrev pub AreRewritten : Bool → ℕ → List Start → List Rewritten → ℕ → List Start → Type 0
+AreRewritten contract budget all ss left starts =
+    run_starts contract budget all ≡ behind ss (run_starts contract left starts)
 
-module _ (budget : ℕ) (all : List Start) (ss : List Rewritten) (left : ℕ) (start : Start) (starts : List Start)
-    (h : AreRewritten budget all ss left (start ∷ starts)) where
-  abbrev r : Run
-  r = run left start.1
+module _ (contract : Bool) (budget : ℕ) (all : List Start) (ss : List Rewritten) (left : ℕ) (start : Start)
+    (starts : List Start)
+    (h : AreRewritten contract budget all ss left (start ∷ starts)) where
+  abbrev w : Work
+  w = work contract left start.1
 
   abbrev by_stop : Option Stop → Sections
   by_stop o = elim o [
-    | Some stop ↦ record { sections = rewritten start r ∷ []; left = left - length r.uses; stop = Some stop }
-    | None ↦ in_front (rewritten start r) (run_starts (left - length r.uses) starts)
+    | Some stop ↦ record { sections = rewritten start w ∷ []; left = left - length w.turns.uses; stop = Some stop }
+    | None ↦ in_front (rewritten start w) (run_starts contract (left - length w.turns.uses) starts)
   ]
 
   -- one more
-  pub one_more : r.stop ≡ None → AreRewritten budget all (ss ++ rewritten start r ∷ []) (left - length r.uses) starts
+  pub one_more : w.turns.stop ≡ None → AreRewritten contract budget all (ss ++ rewritten start w ∷ [])
+      (left - length w.turns.uses) starts
   one_more e =
       h ∙ ap (λ o. behind ss (by_stop o)) e
       ∙ ap (λ xs. record {
         sections = xs;
-        left = (run_starts (left - length r.uses) starts).left;
-        stop = (run_starts (left - length r.uses) starts).stop;
+        left = (run_starts contract (left - length w.turns.uses) starts).left;
+        stop = (run_starts contract (left - length w.turns.uses) starts).stop;
       })
-      (sym (append_assoc ss (rewritten start r ∷ []) (run_starts (left - length r.uses) starts).sections))
+      (sym (append_assoc ss (rewritten start w ∷ [])
+      (run_starts contract (left - length w.turns.uses) starts).sections))
 
   -- the last one
-  pub stops_here : (stop : Stop) → r.stop ≡ Some stop
-      → run_starts budget all
-      ≡ record { sections = ss ++ rewritten start r ∷ []; left = left - length r.uses; stop = Some stop }
+  pub stops_here : (stop : Stop) → w.turns.stop ≡ Some stop
+      → run_starts contract budget all
+      ≡ record { sections = ss ++ rewritten start w ∷ []; left = left - length w.turns.uses; stop = Some stop }
   stops_here stop e = h ∙ ap (λ o. behind ss (by_stop o)) e
 
 -- one of starts that are small is small

@@ -13,6 +13,7 @@ use Rattle.cayley_terms.specs.declared.instr.Instr.TheVariants.{Free, Join, Meet
 use Rattle.cayley_terms.specs.declared.program.Program.{Program}
 use Rattle.cayley_terms.specs.Instrs.{measures}
 use Rattle.cayley_run.specs.Runs.{Log, run_of}
+use Rattle.cayley_run.specs.declared.answer.Options.{Options}
 
 -- the instruction has free points below n and parameters below m alone
 abbrev pub HasNumbers : ℕ → ℕ → Instr → Type 0
@@ -80,4 +81,4 @@ IsWithinProgram p log =
 
 -- the run of a program is within it
 abbrev pub RunIsWithin : Type 0
-RunIsWithin = (budget : ℕ) (p : Program) → IsWithinProgram p (run_of budget p)
+RunIsWithin = (options : Options) (p : Program) → IsWithinProgram p (run_of options p)

@@ -3,6 +3,12 @@ pub mod Runs
 pub mod RunLaws
 pub mod Bounds
 pub mod TurnBounds
+pub mod Alike
 pub mod Results
 pub mod Ready
 pub mod Seen
+pub mod Making
+pub mod Written
+pub mod Failures
+pub mod Endings
+pub mod Courses

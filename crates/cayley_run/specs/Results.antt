@@ -1,21 +1,16 @@
 -- Which answer goes with which run.
-use Rattle.std.specs.Prelude.{◌≡◌, ⊤, ℕ, List, [], map, Some, None, Result, Ok, Err, IfOk, OnOk}
-use Rattle.coordinate_model.specs.Starts.{Product}
-use Rattle.bracket_poly.specs.Answers.{AnswersLimit}
+use Rattle.std.specs.Prelude.{◌≡◌, ⊤, ℕ, map, Some, None, Result, Ok, Err}
 use Rattle.bracket_poly.specs.Tracked.{coefficient_limit, keys_limit}
 use Rattle.bracket_poly.specs.Sections.{worked_of}
 use Rattle.bracket_poly.specs.declared.error.PolyError.{PolyError}
 use Rattle.bracket_poly.specs.declared.error.PolyError.TheVariants as poly_error
 use Rattle.bracket_poly.specs.declared.section.ObjectLog.{ObjectLog}
-use Rattle.bracket_poly.specs.declared.value.Value.{Value}
-use Rattle.shuffle_meet.specs.Seen.{seen}
-use Rattle.shuffle_meet.specs.Stops.{first_stop, tracked_entries}
 use Rattle.straightening.specs.Runs.{Stop, turns_stop, limit_stop}
 use Rattle.cayley_run.specs.declared.answer.StopKind.{StopKind}
 use Rattle.cayley_run.specs.declared.answer.StopKind.TheVariants.{Turns, Coefficient, Keys}
 use Rattle.cayley_run.specs.declared.answer.RunError.{RunError}
 use Rattle.cayley_run.specs.declared.answer.RunError.TheVariants as error
-use Rattle.cayley_run.specs.Runs.{Log, with_object}
+use Rattle.cayley_run.specs.Runs.{Log}
 use Rattle.std.specs.Global.{Vec}
 
 -- the kind of a stop
@@ -29,12 +24,6 @@ abbrev pub IsKindOf : PolyError → StopKind → Type 0
 IsKindOf poly_error.Coefficient kind = kind ≡ Coefficient
 IsKindOf poly_error.Keys kind = kind ≡ Keys
 IsKindOf poly_error.Memory kind = ⊥
-
--- where the answer is that of starts which add these products, the new log has their object of this step in rank d more
-abbrev pub AddsObject : {d : ℕ} {X E : Type 0} → ℕ → Result (Value d) PolyError → Result X E → Log → Log → Type 0
-AddsObject {d} step answer result old new =
-    (ps : List Product) → AnswersLimit answer (first_stop [] ps)
-    → IfOk answer (λ value. seen value.entries ≡ tracked_entries ps) → OnOk result (new ≡ with_object d step ps old)
 
 -- the error tells how the run stopped, behind these logs
 abbrev pub IsStopOf : {d : ℕ} → RunError d → Log → Type 0

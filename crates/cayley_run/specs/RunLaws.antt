@@ -10,6 +10,7 @@ use Rattle.cayley_terms.specs.declared.program.Program.{Program}
 use Rattle.cayley_terms.specs.Figures.{Figure, no_figure}
 use Rattle.cayley_terms.specs.Kept.{objects, polynomial_of}
 use Rattle.cayley_run.specs.Runs.{Log, run_of}
+use Rattle.cayley_run.specs.declared.answer.Options.{Options}
 
 -- the polynomial is normal, and has the value of the start
 pub record IsEndOf (d : ℕ) (start end : BracketPolynomial) : Type 0 where
@@ -48,4 +49,4 @@ pub record MeansProgram (p : Program) (log : Log) : Type 0 where
       → (end : BracketPolynomial) × LastEnds log end × (value end ≡ polynomial_of p)
 
 abbrev pub RunMeans : Type 0
-RunMeans = (budget : ℕ) (p : Program) → MeansProgram p (run_of budget p)
+RunMeans = (options : Options) (p : Program) → MeansProgram p (run_of options p)

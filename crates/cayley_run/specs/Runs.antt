@@ -1,5 +1,5 @@
 -- The run of a program: each object from the values of earlier ones, until all are worked out or a limit is passed.
-use Rattle.std.specs.Prelude.{ℕ, ◌+◌, List, [], ◌∷◌, ◌++◌, map, zip, length, slice_index_or}
+use Rattle.std.specs.Prelude.{ℕ, ◌+◌, ◌-◌, List, [], ◌∷◌, ◌++◌, map, zip, length}
 use Rattle.std.specs.Prelude.{Option, Some, None, Result, Ok, Err}
 use Rattle.coordinate_model.specs.Value.{Value}
 use Rattle.coordinate_model.specs.Starts.{Product}
@@ -9,28 +9,30 @@ use Rattle.conic_points.specs.Makings.{made_of}
 use Rattle.cayley_terms.specs.declared.instr.Instr.{Instr}
 use Rattle.cayley_terms.specs.declared.instr.Instr.TheVariants.{Free, Join, Meet, On, Conic}
 use Rattle.cayley_terms.specs.declared.program.Program.{Program}
-use Rattle.cayley_terms.specs.Starts.{products_of, free_value}
+use Rattle.cayley_terms.specs.Starts.{products_of, free_value, value_at}
 use Rattle.cayley_terms.specs.Starts as operation
 use Rattle.shuffle_meet.specs.Stops.{first_stop, Start}
 use Rattle.straightening.specs.Runs.{Stop, limit_stop}
 use Rattle.cayley_run.specs.Sections.{Sections, run_starts}
+use Rattle.cayley_run.specs.declared.answer.Options.{Options}
 use Rattle.shuffle_meet.specs.SectionStarts.{section_starts}
 
--- what a run has done: the value of each instruction, the objects that were worked out, the turns that are left, and
--- what stopped it, if anything did
+-- what a run has done: how it is run, the value of each instruction, the objects that were worked out, the turns that
+-- are left, and what stopped it, if anything did
 pub record Log : Type 0 where
+  pub options : Options
   pub values : List Value
   pub objects : List Worked
   pub left : ℕ
   pub stop : Option Stop
 
--- before the first instruction, with so many turns
-abbrev pub at_start : ℕ → Log
-at_start budget = record { values = []; objects = []; left = budget; stop = None }
+-- before the first instruction
+abbrev pub at_start : Options → Log
+at_start options = record { options = options; values = []; objects = []; left = options.budget; stop = None }
 
--- the value of the instruction of this number
-abbrev pub value_at : Log → ℕ → Value
-value_at log n = slice_index_or log.values n []
+-- how many turns it has made
+abbrev pub turns_of : Log → ℕ
+turns_of log = log.options.budget - log.left
 
 -- with the value of a free point more
 abbrev pub with_free : ℕ → Log → Log
@@ -39,6 +41,7 @@ with_free i log = record log { values = log.values ++ free_value 64 i ∷ [] }
 -- with an object more of this step and these sections
 abbrev pub with_sections : ℕ → Log → Sections → Log
 with_sections step log s = record {
+  options = log.options;
   values = log.values ++ value_from s.sections ∷ [];
   objects = log.objects ++ record { number = length log.objects + 1; step = step; sections = s.sections } ∷ [];
   left = s.left;
@@ -51,7 +54,7 @@ with_stop step stop log = with_sections step log (record { sections = []; left =
 
 -- with an object of this step more, and the sections of these starts
 abbrev pub with_starts : ℕ → List Start → Log → Log
-with_starts step starts log = with_sections step log (run_starts log.left starts)
+with_starts step starts log = with_sections step log (run_starts log.options.contract log.left starts)
 
 -- with an object of this step in rank d more, that adds these products, unless one of them passes a limit
 abbrev pub with_object : ℕ → ℕ → List Product → Log → Log
@@ -67,7 +70,7 @@ with_start step (Ok start) log = with_starts step (([], start) ∷ []) log
 
 -- with the conclusion of this step more that the six points of these numbers are on a conic
 abbrev pub with_conic : ℕ → List ℕ → Log → Log
-with_conic step six log = with_start step (made_of (map (value_at log) six)) log
+with_conic step six log = with_start step (made_of (map (value_at log.values) six)) log
 
 -- with one instruction more, of this step
 abbrev pub with_instr : ℕ → Log → Instr × ℕ → Log
@@ -82,6 +85,6 @@ abbrev pub run_on : ℕ → Log → List (Instr × ℕ) → Log
 run_on d log [] = log
 run_on d log (instr ∷ instrs) = elim log.stop [ Some stop ↦ log | None ↦ run_on d (with_instr d log instr) instrs ]
 
--- the run of a program with so many turns
-unfoldable pub run_of : ℕ → Program → Log
-run_of budget p = run_on p.rank (at_start budget) (zip p.instrs p.steps)
+-- the run of a program
+unfoldable pub run_of : Options → Program → Log
+run_of options p = run_on p.rank (at_start options) (zip p.instrs p.steps)

@@ -1,6 +1,7 @@
 -- What the code keeps of a run, as the definitions say it.
-use Rattle.std.specs.Prelude.{◌≡◌, ℕ, List, map, length}
+use Rattle.std.specs.Prelude.{◌≡◌, ℕ, List, ◌++◌, map, length}
 use Rattle.std.specs.Option.{option_map}
+use Rattle.coordinate_model.specs.Syzygy.{Use}
 use Rattle.bracket_terms.specs.declared.extensor.Extensor.{Extensor}
 use Rattle.bracket_terms.specs.Joins.{points_of}
 use Rattle.bracket_terms.specs.LogUses.{use_of}
@@ -14,7 +15,7 @@ use Rattle.cayley_run.specs.Results.{stop_of}
 use Rattle.cayley_run.specs.Sections as spec
 use Rattle.cayley_run.specs.Runs.{Log}
 use Rattle.cayley_run.specs.declared.sections.Sections.{Sections}
-use Rattle.cayley_run.specs.declared.sections.Rewriting.{Rewriting}
+use Rattle.cayley_run.specs.declared.rewriting.Rewriting.{Rewriting}
 use Rattle.cayley_run.specs.declared.progress.Progress.{Progress}
 
 -- a start of the code
@@ -33,16 +34,24 @@ sections_of s = record {
   stop = option_map stop_of s.stop;
 }
 
--- the rewriting of a start is this run
-pub record IsRewriting {d : ℕ} (r : Rewriting d) (run : Run) : Type 0 where
-  pub uses : map use_of r.uses ≡ run.uses
+-- the rewriting is these passes, and this run of turns
+pub record IsRewriting {d : ℕ} (r : Rewriting d) (passes : List Use) (run : Run) : Type 0 where
+  pub uses : map use_of r.uses ≡ passes ++ run.uses
   pub turns : r.turns ≡ length run.uses
   pub end : option_map (λ p. p.tracked.sum) r.end ≡ spec.end_of run
   pub stop : option_map stop_of r.stop ≡ run.stop
 
+-- the rewriting is the other one behind these uses
+pub record IsBehind {d : ℕ} (r turned : Rewriting d) (passes : List Use) : Type 0 where
+  pub uses : map use_of r.uses ≡ passes ++ map use_of turned.uses
+  pub turns : r.turns ≡ turned.turns
+  pub end : r.end ≡ turned.end
+  pub stop : r.stop ≡ turned.stop
+
 -- a run of the code
 abbrev pub log_of : {d : ℕ} → Progress d → Log
 log_of p = record {
+  options = p.options;
   values = map (λ v. value_of v.entries) p.values.items;
   objects = map worked_of p.objects.items;
   left = p.left;

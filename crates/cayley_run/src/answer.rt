@@ -1,5 +1,6 @@
 //! What a run answers.
-use bracket_poly::{Items, ObjectLog};
+use bracket_poly::{Items, ObjectLog, Poly};
+use proof_text::WriteError;
 
 /// How a program is run.
 #[derive(Clone, Copy, Debug, PartialEq, Eq)]
@@ -31,4 +32,38 @@ pub enum RunError<const D: usize> {
     },
     /// There is no memory.
     Memory,
+}
+
+/// What a run came to that was written as it went.
+#[derive(Drop)]
+pub struct Summary<const D: usize> {
+    /// How many turns the whole run made.
+    pub turns: u64,
+    /// The polynomial with which the section of the conclusion ends.
+    pub end: Poly<D>,
+}
+
+/// Why a run was not written to its end.
+#[derive(Clone, Copy, Debug, PartialEq, Eq, Drop)]
+pub enum IntoError {
+    /// The run stopped behind what was written.
+    Stop(StopKind),
+    /// A call of the sink failed.
+    Write,
+    /// There is no memory.
+    Memory,
+}
+
+impl From<WriteError> for IntoError {
+    ghost use Rattle.std.specs.Prelude.{◌≡◌};
+    ghost use Rattle.cayley_run.specs.Failures.{failure_of};
+
+    ghost from_gives = { λ error into. into ≡ failure_of error };
+
+    fn from(error: WriteError) -> Self {
+        match error {
+            WriteError::Write => IntoError::Write,
+            WriteError::Memory => IntoError::Memory,
+        }
+    }
 }

@@ -1,4 +1,5 @@
 //! The laws of runs. Each function does nothing; its clauses are the laws.
+ghost use Rattle.cayley_run.specs.Alike.{RunsEndAlike};
 ghost use Rattle.cayley_run.specs.Bounds.{RunIsWithin};
 ghost use Rattle.cayley_run.specs.RunLaws.{RunMeans};
 ghost use Rattle.cayley_run.specs.TurnBounds.{RunTakesFewTurns};
@@ -8,9 +9,10 @@ ghost use Rattle.cayley_run.specs.TurnBounds.{RunTakesFewTurns};
 /// conclusion. The points and parameters of a run are those of the program, and its rows and exponents at most those of
 /// its objects. Each section takes at most as many turns as there are keys that are not standard in the classes of the
 /// terms of its start, and with a budget of as many as these are in all sections together the run never stops for its
-/// turns.
+/// turns. Runs that nothing stops, with contraction and without, have the same starts and the same ends.
 pub fn runs()
     ensures means { RunMeans }
     ensures within { RunIsWithin }
     ensures turns { RunTakesFewTurns }
+    ensures alike { RunsEndAlike }
 {}

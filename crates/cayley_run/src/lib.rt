@@ -2,11 +2,17 @@
 #![tactic(auto)]
 
 mod answer;
+mod course;
+mod into;
 pub mod laws;
+mod making;
 mod progress;
+mod rewriting;
 mod run;
 mod sections;
 mod values;
+mod writing;
 
-pub use answer::{Options, RunError, StopKind};
+pub use answer::{IntoError, Options, RunError, StopKind, Summary};
+pub use into::run_into;
 pub use run::run_sections;

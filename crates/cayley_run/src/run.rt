@@ -1,6 +1,6 @@
 //! The run of a whole program.
 
-ghost use Rattle.std.specs.Prelude.{◌≡◌, false};
+ghost use Rattle.std.specs.Prelude.{◌≡◌};
 ghost use Rattle.coordinate_model.specs.Sequences.{IsRank};
 ghost use Rattle.cayley_run.specs.Bounds.{IsWithinProgram};
 ghost use Rattle.cayley_run.specs.Runs.{run_of};
@@ -14,8 +14,8 @@ use bracket_poly::{Items, ObjectLog};
 use cayley_terms::Program;
 use std::alloc::Global;
 
-/// The logs of all objects of a program, worked out in order from the values of earlier ones. The budget counts the
-/// turns of the whole run.
+/// The logs of all objects of a program, worked out in order from the values of earlier ones. Each section begins with
+/// passes of contraction where the options ask for them. The budget counts the turns of the whole run alone.
 ///
 /// `Stop` comes exactly where the run passes a limit or spends its budget, with its kind and the logs up to there.
 pub fn run_sections<const D: usize>(
@@ -24,13 +24,12 @@ pub fn run_sections<const D: usize>(
     options: Options,
 ) -> Result<Vec<ObjectLog<D>>, RunError<D>>
     requires rank { program.now.rank ≡ D }
-    requires plain { options.contract ≡ false }
-    ensures run { AnswersLog result (run_of options.budget program.now) }
-    ensures means { MeansProgram program.now (run_of options.budget program.now) }
-    ensures within { IsWithinProgram program.now (run_of options.budget program.now) }
-    ensures turns { TakesFewTurns program.now.rank options.budget (run_of options.budget program.now) }
+    ensures run { AnswersLog result (run_of options program.now) }
+    ensures means { MeansProgram program.now (run_of options program.now) }
+    ensures within { IsWithinProgram program.now (run_of options program.now) }
+    ensures turns { TakesFewTurns program.now.rank options (run_of options program.now) }
 {
-    let mut progress = Progress::new(alloc, options.budget);
+    let mut progress = Progress::new(alloc, options);
     let steps = program.steps.items();
     for (number, instr) in program.instrs.items().iter().enumerate() {
         let Ok(()) = progress.run(*instr, steps[number]) else {

@@ -8,17 +8,17 @@ use Rattle.cayley_run.specs.Seen.{log_of, steps_of}
 use Rattle.cayley_run.proofs.RunMeaning.{run_means}
 use Rattle.cayley_run.proofs.RunBounds.{run_is_within}
 use Rattle.cayley_run.proofs.RunTurns.{run_takes_few_turns}
-use Rattle.cayley_run.proofs.RunSteps.{run_begins, step_below, next_ready, run_goes_on}
+use Rattle.cayley_run.proofs.RunSteps.{run_begins, step_below, next_ready, next_room, run_goes_on}
 use Rattle.cayley_run.proofs.run.run_sections.Goals as goal
 
 pub loop-number-init : goal.loop-number-init
 loop-number-init g c =
-    run_begins c.args.options.budget c.args.program.now (log_of c.new-progress.result) (steps_of c.new-progress.result)
+    run_begins c.args.options c.args.program.now (log_of c.new-progress.result) (steps_of c.new-progress.result)
     c.new-progress.ensures.log c.new-progress.ensures.steps
 
 pub bounds-steps-number : goal.bounds-steps-number
 bounds-steps-number g c =
-    step_below c.args.options.budget c.args.program.now g.row.D c.requires.rank (log_of c.loop-number.progress)
+    step_below c.args.options c.args.program.now g.row.D c.requires.rank (log_of c.loop-number.progress)
     (steps_of c.loop-number.progress) c.loop-number.number c.items-instr-items.result.now c.items-steps.result.now
     c.items-instr-items.ensures c.items-steps.ensures c.loop-number-test.true c.loop-number.invariant
 
@@ -27,43 +27,48 @@ run-requires g c = (
   search rules,
   (
     subst IsRank c.requires.rank c.args.program.now.formed.rank,
-    next_ready c.args.options.budget c.args.program.now g.row.D c.requires.rank (log_of c.loop-number.progress)
-        (steps_of c.loop-number.progress) c.loop-number.number c.items-instr-items.result.now c.items-steps.result.now
-        c.items-instr-items.ensures c.items-steps.ensures c.loop-number-test.true c.loop-number.invariant,
+    (
+      next_ready c.args.options c.args.program.now g.row.D c.requires.rank (log_of c.loop-number.progress)
+          (steps_of c.loop-number.progress) c.loop-number.number c.items-instr-items.result.now c.items-steps.result.now
+          c.items-instr-items.ensures c.items-steps.ensures c.loop-number-test.true c.loop-number.invariant,
+      next_room c.args.options c.args.program.now g.row.D c.requires.rank (log_of c.loop-number.progress)
+          (steps_of c.loop-number.progress) c.loop-number.number c.items-instr-items.result.now c.items-steps.result.now
+          c.items-instr-items.ensures c.items-steps.ensures c.loop-number-test.true c.loop-number.invariant,
+    ),
   ),
 )
 
 pub returns-in_default-clause-means : goal.returns-in_default-clause-means
-returns-in_default-clause-means g c = run_means c.args.options.budget c.args.program.now
+returns-in_default-clause-means g c = run_means c.args.options c.args.program.now
 
 pub returns-in_default-clause-within : goal.returns-in_default-clause-within
-returns-in_default-clause-within g c = run_is_within c.args.options.budget c.args.program.now
+returns-in_default-clause-within g c = run_is_within c.args.options c.args.program.now
 
 pub returns-in_default-clause-turns : goal.returns-in_default-clause-turns
-returns-in_default-clause-turns g c = run_takes_few_turns c.args.options.budget c.args.program.now
+returns-in_default-clause-turns g c = run_takes_few_turns c.args.options c.args.program.now
 
 pub returns-in-Some-clause-means : goal.returns-in-Some-clause-means
-returns-in-Some-clause-means g c = run_means c.args.options.budget c.args.program.now
+returns-in-Some-clause-means g c = run_means c.args.options c.args.program.now
 
 pub returns-in-Some-clause-within : goal.returns-in-Some-clause-within
-returns-in-Some-clause-within g c = run_is_within c.args.options.budget c.args.program.now
+returns-in-Some-clause-within g c = run_is_within c.args.options c.args.program.now
 
 pub returns-in-Some-clause-turns : goal.returns-in-Some-clause-turns
-returns-in-Some-clause-turns g c = run_takes_few_turns c.args.options.budget c.args.program.now
+returns-in-Some-clause-turns g c = run_takes_few_turns c.args.options c.args.program.now
 
 pub loop-number-preserved : goal.loop-number-preserved
 loop-number-preserved g c =
-    run_goes_on c.args.options.budget c.args.program.now g.row.D c.requires.rank (log_of c.loop-number.progress)
+    run_goes_on c.args.options c.args.program.now g.row.D c.requires.rank (log_of c.loop-number.progress)
     (steps_of c.loop-number.progress) c.loop-number.number c.items-instr-items.result.now c.items-steps.result.now
     c.items-instr-items.ensures c.items-steps.ensures c.loop-number-test.true c.loop-number.invariant
     (log_of c.run.new.self) (steps_of c.run.new.self) c.in-Ok.ensures.log c.in-Ok.ensures.steps
     (ap (λ (o : Option StopKind). option_map stop_of o) c.in_default-stop.is)
 
 pub returns-clause-means : goal.returns-clause-means
-returns-clause-means g c = run_means c.args.options.budget c.args.program.now
+returns-clause-means g c = run_means c.args.options c.args.program.now
 
 pub returns-clause-within : goal.returns-clause-within
-returns-clause-within g c = run_is_within c.args.options.budget c.args.program.now
+returns-clause-within g c = run_is_within c.args.options c.args.program.now
 
 pub returns-clause-turns : goal.returns-clause-turns
-returns-clause-turns g c = run_takes_few_turns c.args.options.budget c.args.program.now
+returns-clause-turns g c = run_takes_few_turns c.args.options c.args.program.now

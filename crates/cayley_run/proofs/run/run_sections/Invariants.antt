@@ -6,5 +6,5 @@ use Rattle.cayley_run.proofs.run.run_sections.Given as goal
 -- the run goes on from here
 abbrev pub invariant-loop-number : goal.invariant-loop-number
 invariant-loop-number g l =
-    IsRunFrom l.fn.options.budget l.program (log_of l.progress) (steps_of l.progress) (drop l.number l.program.instrs)
+    IsRunFrom l.fn.options l.program (log_of l.progress) (steps_of l.progress) (drop l.number l.program.instrs)
     (drop l.number l.program.steps)

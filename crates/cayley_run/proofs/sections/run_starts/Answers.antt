@@ -1,5 +1,6 @@
 use Rattle.std.proofs.Common.{rules, sym, subst, refl, ℕ, ◌≤◌}
-use Rattle.cayley_run.proofs.StartRuns.{small_at, turns_within}
+use Rattle.cayley_run.proofs.StartRuns.{small_at}
+use Rattle.cayley_run.proofs.WorkLaws.{work_within}
 use Rattle.cayley_run.proofs.SectionSteps.{step_goes_on, none_of}
 use Rattle.cayley_run.proofs.sections.run_starts.Goals as goal
 
@@ -16,12 +17,12 @@ rewrite-requires g c = (
 pub overflow_sub-done : goal.overflow_sub-done
 overflow_sub-done g c =
     subst (λ (n : ℕ). n ≤ c.loop-scalar.done.left) (sym c.in_ok-rewriting.ensures.turns)
-    (turns_within c.loop-scalar.done.left c.loop-scalar-item.result.1.tracked)
+    (work_within c.args.contract c.loop-scalar.done.left c.loop-scalar-item.result.1.tracked)
 
 pub loop-scalar-preserved : goal.loop-scalar-preserved
 loop-scalar-preserved g c =
     let none = none_of c.in_ok-rewriting.rewriting.stop c.if-is_some.ensures in (
-      step_goes_on c.args.budget c.loop-scalar.done.left c.args.starts.now c.loop-scalar.scalar-index
+      step_goes_on c.args.contract c.args.budget c.loop-scalar.done.left c.args.starts.now c.loop-scalar.scalar-index
           c.loop-scalar-item.result c.loop-scalar.done.sections.items c.push.new.self.items _ c.in_ok-rewriting.rewriting
           c.loop-scalar-test.true c.loop-scalar-item.is c.loop-scalar.invariant.0 c.in_ok-rewriting.ensures
           c.in_ok-push.ensures.items refl c.in_ok-copy.ensures refl refl none,

@@ -8,6 +8,6 @@ use Rattle.cayley_run.proofs.sections.run_starts.Given as goal
 -- so far nothing stopped the run
 abbrev pub invariant-loop-scalar : goal.invariant-loop-scalar
 invariant-loop-scalar g l =
-    AreRewritten l.budget (starts_of l.starts) (map rewritten_of l.done.sections.items) l.done.left
+    AreRewritten l.fn.contract l.budget (starts_of l.starts) (map rewritten_of l.done.sections.items) l.done.left
     (starts_of (drop l.scalar-index l.starts))
     × (l.done.stop ≡ None)
