@@ -1,77 +1,121 @@
 -- Each list of words and each input has one answer.
-use Rattle.std.proofs.Common.{◌≡◌, ℕ, inl, inr, List, length, codes, refl, sym, ap, subst, ◌∙◌, arith, Result, Ok, Err}
+use Rattle.std.proofs.Common.{◌≡◌, ℕ, ◌<◌, ◌≤◌, ◌⊎◌, inl, inr, List, [], length, codes, Option, Some, None, refl}
+use Rattle.std.proofs.Common.{sym, ap, subst, ◌∙◌, arith, Result, Ok, Err}
+use Rattle.std.specs.Prelude.{IfSome}
 use Rattle.std.proofs.lemmas.Bool.{cases_lt}
-use Rattle.construction_reader.specs.declared.reading.TheConstants.{LONGEST}
 use Rattle.construction_reader.specs.declared.fault.TextFault.{TextFault}
 use Rattle.construction_reader.specs.Said.{Account}
+use Rattle.construction_reader.specs.TextOf.{TextOf}
 use Rattle.construction_reader.proofs.TextAgain.{text_of-unique}
 use Rattle.construction_reader.proofs.FaultTexts.{one_fault, never_both, either}
 use Rattle.step_types.specs.Checks as steps
 use Rattle.step_types.specs.Known.{Known}
 use Rattle.step_types.specs.declared.fault.StepFault.{StepFault}
-use Rattle.prover.specs.Answer.{Answer, IsAnswer, IsProveAnswer, IsTextAnswer, IsAccountAnswer, usage, refused, refused_at, kind_word, step_word, proof_answer}
-use Rattle.prover.proofs.WordLists.{some_list, one_budget}
+use Rattle.prover.specs.declared.mode.Mode.{Mode}
+use Rattle.prover.specs.declared.mode.Mode.TheVariants as mode
+use Rattle.prover.specs.declared.parts.Fault.{Fault}
+use Rattle.prover.specs.declared.parts.Fault.TheVariants as fault
+use Rattle.prover.specs.Answer.{Answer, usage, refused}
+use Rattle.prover.specs.Parts.{IsFault, Gives, IsPart, refused_at}
+use Rattle.prover.specs.Modes.Prove.{IsProveAnswer, proof_answer}
+use Rattle.prover.specs.Modes.Sample.{sample_answer}
+use Rattle.prover.specs.Modes.{IsAnswer, IsInputAnswer, IsModeAnswer, IsTooLong, IsShort, longest_input}
+use Rattle.prover.proofs.ModeLaws.{some_mode, one_mode}
 
--- ---- an answer
+-- ---- parts
 
-some_account_answer : (budget : ℕ) (c : Account) → (a : Answer) × IsAccountAnswer budget c a
-some_account_answer budget c = split (steps.checked c) refl
+module _ (prefix text : List ℕ) (Then : Account → Answer → Type 0) where
+  some_part : ((c : Account) → Gives text c → (a : Answer) × Then c a) → (a : Answer) × IsPart prefix text Then a
+  some_part then = go (either text)
+    where
+      good : (c : Account) → TextOf text c → (r : Result Known StepFault) → steps.checked c ≡ r
+          → (a : Answer) × IsPart prefix text Then a
+      good c gives (Ok known) e =
+          let is : Gives text c = record { gives = gives; good = (known, e) } in
+          let found = then c is in (found.0, inr (c, is, found.1))
+      good c gives (Err f) e = (refused_at prefix (fault.Step f), inl (fault.Step f, (c, gives, e), refl))
+
+      go : ((c : Account) × TextOf text c) ⊎ ((f : TextFault) × IsFault text (fault.Text f))
+          → (a : Answer) × IsPart prefix text Then a
+      go (inl w) = good w.0 w.1 (steps.checked w.0) refl
+      go (inr w) = (refused_at prefix (fault.Text w.0), inl (fault.Text w.0, w.1, refl))
+
+  one_text : (c e : Account) → TextOf text c → TextOf text e → e ≡ c
+  one_text c e gives also = sym (text_of-unique text c e gives also)
+
+  same_fault : (f g : Fault) → IsFault text f → IsFault text g → f ≡ g
+  same_fault (fault.Text f) (fault.Text g) is also = ap fault.Text (one_fault text f g is also)
+  same_fault (fault.Text f) (fault.Step g) is (c, gives, broken) = absurd (never_both text c f gives is)
+  same_fault (fault.Step f) (fault.Text g) (c, gives, broken) also = absurd (never_both text c g gives also)
+  same_fault (fault.Step f) (fault.Step g) (c, gives, is) (e, more, also) =
+      let same : e ≡ c = one_text c e gives more in
+      let there : steps.IsFault c g = subst (λ (x : Account). steps.IsFault x g) same also in
+      let one : f ≡ g = cc in ap fault.Step one
+
+  fault_or_good : (f : Fault) (c : Account) → IsFault text f → Gives text c → ⊥
+  fault_or_good (fault.Text f) c is gives = never_both text c f gives.gives is
+  fault_or_good (fault.Step f) c (e, more, is) gives =
+      let same : e ≡ c = one_text c e gives.gives more in
+      let broken : steps.IsFault c f = subst (λ (x : Account). steps.IsFault x f) same is in
+      let good = gives.good.1 in cc
+
+  one_part : ((c : Account) (a b : Answer) → Then c a → Then c b → a ≡ b) → (a b : Answer) → IsPart prefix text Then a
+      → IsPart prefix text Then b → a ≡ b
+  one_part one a b (inl (f, is, x)) (inl (g, also, y)) = x ∙ ap (refused_at prefix) (same_fault f g is also) ∙ sym y
+  one_part one a b (inl (f, is, x)) (inr (c, gives, y)) = absurd (fault_or_good f c is gives)
+  one_part one a b (inr (c, gives, x)) (inl (f, is, y)) = absurd (fault_or_good f c is gives)
+  one_part one a b (inr (c, gives, x)) (inr (e, also, y)) =
+      one c a b x (subst (λ (w : Account). Then w b) (one_text c e gives.gives also.gives) y)
+
+-- ---- modes
+
+pub some_mode_answer : (m : Mode) (input : List ℕ) → (a : Answer) × IsModeAnswer m input a
+some_mode_answer (mode.Prove options) input =
+    some_part [] input (λ c a. a ≡ proof_answer options c) (λ c gives. (proof_answer options c, refl))
+some_mode_answer (mode.Sample number budget) input = (sample_answer number budget, refl)
+
+one_mode_answer : (m : Mode) (input : List ℕ) (a b : Answer) → IsModeAnswer m input a → IsModeAnswer m input b → a ≡ b
+one_mode_answer (mode.Prove options) input a b is also =
+    one_part [] input (λ c a. a ≡ proof_answer options c) (λ c x y is also. is ∙ sym also) a b is also
+one_mode_answer (mode.Sample number budget) input a b is also = is ∙ sym also
+
+-- ---- whole inputs
+
+pub long_or_short : (m : Mode) (input : List ℕ) → IsTooLong m input ⊎ IsShort m input
+long_or_short m input = go (longest_input m) refl
   where
-    split : (r : Result Known StepFault) → steps.checked c ≡ r → (a : Answer) × IsAccountAnswer budget c a
-    split (Ok known) e = (proof_answer budget c, inr ((known, e), refl))
-    split (Err fault) e = (refused_at fault.line (step_word fault.kind), inl (fault, e, refl))
+    go : (longest : Option ℕ) → longest_input m ≡ longest → IsTooLong m input ⊎ IsShort m input
+    go None e = inr (rw e tt)
+    go (Some n) e = elim (cases_lt n (length input)) [ inl less ↦ inl (n, e, less) | inr more ↦ inr (rw e more) ]
 
-some_text_answer : (budget : ℕ) (text : List ℕ) → (a : Answer) × IsTextAnswer budget text a
-some_text_answer budget text = elim (either text) [
-  | inl w ↦ (let found = some_account_answer budget w.0 in (found.0, inr (w.0, w.1, found.1)))
-  | inr w ↦ (refused_at w.0.line (kind_word w.0.kind), inl (w.0, w.1, refl))
-]
+long_and_short : (m : Mode) (input : List ℕ) → IsTooLong m input → IsShort m input → ⊥
+long_and_short m input (n, e, long) short =
+    let few : length input ≤ n = subst (λ (x : Option ℕ). IfSome x (λ k. length input ≤ k)) e short in omega arith
 
-some_prove_answer : (budget : ℕ) (input : List ℕ) → (a : Answer) × IsProveAnswer budget input a
-some_prove_answer budget input = elim (cases_lt LONGEST (length input)) [
+pub some_input_answer : (m : Mode) (input : List ℕ) → (a : Answer) × IsInputAnswer m input a
+some_input_answer m input = elim (long_or_short m input) [
   | inl long ↦ (refused (codes "long"), inl (long, refl))
-  | inr short ↦ (let found = some_text_answer budget input in (found.0, inr (short, found.1)))
+  | inr short ↦ (let found = some_mode_answer m input in (found.0, inr (short, found.1)))
 ]
+
+one_input_answer : (m : Mode) (input : List ℕ) (a b : Answer) → IsInputAnswer m input a → IsInputAnswer m input b → a ≡ b
+one_input_answer m input a b (inl (long, x)) (inl (also, y)) = x ∙ sym y
+one_input_answer m input a b (inl (long, x)) (inr (short, y)) = absurd (long_and_short m input long short)
+one_input_answer m input a b (inr (short, x)) (inl (long, y)) = absurd (long_and_short m input long short)
+one_input_answer m input a b (inr (short, x)) (inr (also, y)) = one_mode_answer m input a b x y
+
+-- ---- words and inputs
 
 pub some_answer : (words : List (List ℕ)) (input : List ℕ) → (a : Answer) × IsAnswer words input a
-some_answer words input = elim (some_list words) [
-  | inl w ↦ (let found = some_prove_answer w.0 input in (found.0, inr (w.0, w.1, found.1)))
+some_answer words input = elim (some_mode words) [
+  | inl w ↦ (let found = some_input_answer w.0 input in (found.0, inr (w.0, w.1, found.1)))
   | inr other ↦ (usage, inl (other, refl))
 ]
-
--- ---- and no other
-
-one_account_answer : (budget : ℕ) (c : Account) (a b : Answer) → IsAccountAnswer budget c a → IsAccountAnswer budget c b
-    → a ≡ b
-one_account_answer budget c a b (inl (f, is_f, x)) (inl (g, is_g, y)) =
-    let same : f ≡ g = cc in
-    x ∙ ap (λ (fault : StepFault). refused_at fault.line (step_word fault.kind)) same ∙ sym y
-one_account_answer budget c a b (inl (f, is_f, x)) (inr ((known, good), y)) = absurd cc
-one_account_answer budget c a b (inr ((known, good), x)) (inl (f, is_f, y)) = absurd cc
-one_account_answer budget c a b (inr (good, x)) (inr (also, y)) = x ∙ sym y
-
-one_text_answer : (budget : ℕ) (text : List ℕ) (a b : Answer) → IsTextAnswer budget text a → IsTextAnswer budget text b
-    → a ≡ b
-one_text_answer budget text a b (inl (f, is_f, x)) (inl (g, is_g, y)) =
-    x ∙ ap (λ (fault : TextFault). refused_at fault.line (kind_word fault.kind)) (one_fault text f g is_f is_g) ∙ sym y
-one_text_answer budget text a b (inl (f, is_f, x)) (inr (c, gives, y)) = absurd (never_both text c f gives is_f)
-one_text_answer budget text a b (inr (c, gives, x)) (inl (f, is_f, y)) = absurd (never_both text c f gives is_f)
-one_text_answer budget text a b (inr (c, gives, x)) (inr (d, also, y)) =
-    one_account_answer budget c a b x
-    (subst (λ (e : Account). IsAccountAnswer budget e b) (sym (text_of-unique text c d gives also)) y)
-
-one_prove_answer : (budget : ℕ) (input : List ℕ) (a b : Answer) → IsProveAnswer budget input a → IsProveAnswer budget input b
-    → a ≡ b
-one_prove_answer budget input a b (inl (long, x)) (inl (also, y)) = x ∙ sym y
-one_prove_answer budget input a b (inl (long, x)) (inr (short, y)) = absurd (omega arith)
-one_prove_answer budget input a b (inr (short, x)) (inl (long, y)) = absurd (omega arith)
-one_prove_answer budget input a b (inr (short, x)) (inr (also, y)) = one_text_answer budget input a b x y
 
 pub one_answer : (words : List (List ℕ)) (input : List ℕ) (a b : Answer) → IsAnswer words input a → IsAnswer words input b
     → a ≡ b
 one_answer words input a b (inl (other, x)) (inl (also, y)) = x ∙ sym y
-one_answer words input a b (inl (other, x)) (inr (budget, prove, y)) = absurd (other budget prove)
-one_answer words input a b (inr (budget, prove, x)) (inl (other, y)) = absurd (other budget prove)
-one_answer words input a b (inr (budget, prove, x)) (inr (more, also, y)) =
-    one_prove_answer budget input a b x
-    (subst (λ (n : ℕ). IsProveAnswer n input b) (one_budget words more budget also prove) y)
+one_answer words input a b (inl (other, x)) (inr (m, is, y)) = absurd (other m is)
+one_answer words input a b (inr (m, is, x)) (inl (other, y)) = absurd (other m is)
+one_answer words input a b (inr (m, is, x)) (inr (n, also, y)) =
+    one_input_answer m input a b x (subst (λ (k : Mode). IsInputAnswer k input b) (one_mode words n m also is) y)

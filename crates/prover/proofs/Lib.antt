@@ -1,9 +1,10 @@
 pub mod WordLists
-pub mod Refusals
-pub mod Puts
-pub mod Verdicts
-pub mod Inputs
+pub mod Choices
+pub mod ModeLaws
 pub mod AnswerLaws
-pub mod Replies
+pub mod Inputs
 pub mod Outcomes
-pub mod NamedLogs
+pub mod Calls
+pub mod Verdicts
+pub mod Proofs
+pub mod Samples

@@ -1,38 +1,60 @@
--- What a call writes, by the reply that it puts.
-use Rattle.std.proofs.Common.{◌≡◌, ℕ, ◌⊎◌, inl, inr, List, [], ◌∷◌, map, Option, Some, None, refl, sym, ◌∙◌}
-use Rattle.std.specs.Option.{option_map}
+-- What a call writes, by what was put.
+use Rattle.std.proofs.Common.{◌≡◌, ℕ, ◌⊎◌, inl, inr, Bool, true, false, List, [], ◌∷◌, ◌++◌, Option, Some, None}
+use Rattle.std.proofs.Common.{Result, Ok, Err, IfOk, refl, sym, ap, subst, ◌∙◌}
+use Rattle.std.specs.Prelude.{⊤}
+use Rattle.std.specs.Result.{IsErrAnd}
 use Rattle.cay_base.specs.Bytes.{Gains}
-use Rattle.coordinate_model.specs.Sums.{Terms}
-use Rattle.coordinate_model.specs.Key.{Key}
-use Rattle.bracket_poly.specs.Sections.{Worked, worked_of}
-use Rattle.straightening.specs.Runs.{Stop}
-use Rattle.cayley_run.specs.Results.{stop_of}
 use Rattle.proof_text.specs.Lines.{text_of}
-use Rattle.prover.specs.declared.reply.Reply.{Reply}
-use Rattle.prover.specs.declared.reply.Reply.TheVariants as reply
+use Rattle.proof_text.specs.Writes as lines
+use Rattle.proof_text.specs.declared.error.WriteError.{WriteError}
+use Rattle.proof_text.specs.declared.error.WriteError.TheVariants as write
+use Rattle.proof_text.proofs.Writing.{gains_nothing, writes_more, writes_less, writes_none}
+use Rattle.prover.specs.declared.mode.Mode.{Mode}
+use Rattle.prover.specs.declared.mode.Mode.TheVariants as mode
 use Rattle.prover.specs.declared.status.Status.{Status}
-use Rattle.prover.specs.declared.status.Status.TheVariants.{Usage, TextRefused, Stopped, ReadFault, Memory}
-use Rattle.prover.specs.Answer.{Answer, verdict, last_status, last_terms}
-use Rattle.prover.specs.Outcome.{IsVerdict, Writes, Written}
-use Rattle.prover.specs.Reply.{answer_of}
-use Rattle.proof_text.proofs.Writing.{gains_nothing}
+use Rattle.prover.specs.declared.status.Status.TheVariants.{Proved, Done, Refuted, Usage, TextRefused, Stopped}
+use Rattle.prover.specs.declared.status.Status.TheVariants.{ReadFault, WriteFault, Memory}
+use Rattle.prover.specs.Answer.{Answer}
+use Rattle.straightening.specs.Runs.{Stop}
+use Rattle.bracket_poly.specs.Sections.{Worked}
+use Rattle.prover.specs.Runs.{log_of, ends_in_zero}
+use Rattle.prover.specs.Modes.{IsModeAnswer, IsDecision, Decides, longest_input}
+use Rattle.prover.specs.Modes.Sample.{run_status, sample_log}
+use Rattle.prover.specs.Modes.Prove.{verdict, last_status}
+use Rattle.prover.specs.Outcome.{Writes, Written, PutsAnswer, Tells, status_of}
 
--- a refusal is no verdict
-pub refused_is_none : (s : Status) → s ≡ TextRefused → IsVerdict s → ⊥
-refused_is_none s e (inl h) = cc
-refused_is_none s e (inr h) = cc
+-- ---- the statuses of answers
 
--- the statuses of answers
+-- a status that an answer can have
 abbrev pub IsAnswered : Status → Type 0
-IsAnswered s = (IsVerdict s ⊎ (s ≡ TextRefused)) ⊎ ((s ≡ Usage) ⊎ (s ≡ Stopped))
+IsAnswered ReadFault = ⊥
+IsAnswered WriteFault = ⊥
+IsAnswered Memory = ⊥
+IsAnswered status = Unit {0}
 
 writes_all : (a : Answer) (s : Status) (before after : Option (List ℕ)) → IsAnswered s → a.status ≡ s
     → Gains before after (text_of a.lines) → Writes a s before after
-writes_all a s before after (inl (inl (inl is))) e gains = rw is (e ∙ is, gains)
-writes_all a s before after (inl (inl (inr is))) e gains = rw is (e ∙ is, gains)
-writes_all a s before after (inl (inr is)) e gains = rw is (e ∙ is, gains)
-writes_all a s before after (inr (inl is)) e gains = rw is (e ∙ is, gains)
-writes_all a s before after (inr (inr is)) e gains = rw is (e ∙ is, gains)
+writes_all a Proved before after is e gains = (e, gains)
+writes_all a Done before after is e gains = (e, gains)
+writes_all a Refuted before after is e gains = (e, gains)
+writes_all a Usage before after is e gains = (e, gains)
+writes_all a TextRefused before after is e gains = (e, gains)
+writes_all a Stopped before after is e gains = (e, gains)
+writes_all a ReadFault before after is e gains = absurd is
+writes_all a WriteFault before after is e gains = absurd is
+writes_all a Memory before after is e gains = absurd is
+
+-- statuses with which no mode decides anything
+abbrev pub IsUndecided : Status → Type 0
+IsUndecided Proved = ⊥
+IsUndecided Done = ⊥
+IsUndecided Refuted = ⊥
+IsUndecided status = Unit {0}
+
+pub undecided : (m : Mode) (s : Status) → IsUndecided s → IsDecision m s → ⊥
+undecided (mode.Prove options) s is (inl e) = subst IsUndecided e is
+undecided (mode.Prove options) s is (inr e) = subst IsUndecided e is
+undecided (mode.Sample number budget) s is e = subst IsUndecided e is
 
 -- what is put for an answer
 pub writes_put : (a : Answer) (result : Status) (before after : Option (List ℕ)) (m n : ℕ) → IsAnswered a.status
@@ -41,42 +63,189 @@ writes_put a result before after m n is (inl put) = rw put.0 (writes_all a a.sta
 writes_put a result before after m n is (inr (inl (e, front, rose))) = rw e front
 writes_put a result before after m n is (inr (inr (e, front))) = rw e front
 
--- replies are answers
-terms_answered : (ts : Terms Key) → IsAnswered (verdict ts)
-terms_answered [] = inl (inl (inl refl))
-terms_answered (t ∷ ts) = inl (inl (inr refl))
-
-proof_answered : (objects : List Worked) (stop : Option Stop) → IsAnswered (last_status objects stop)
-proof_answered objects (Some stop) = inr (inr refl)
-proof_answered objects None = terms_answered (last_terms objects)
-
-pub reply_answered : (r : Reply) → IsAnswered (answer_of r).status
-reply_answered (reply.Refused reason) = inl (inr refl)
-reply_answered (reply.Plane p) = proof_answered (map worked_of p.objects) (option_map stop_of p.stop)
-reply_answered (reply.Space p) = proof_answered (map worked_of p.objects) (option_map stop_of p.stop)
-
 -- where nothing is put
 pub writes_nothing : (a : Answer) (s : Status) (held : Option (List ℕ)) → (s ≡ ReadFault) ⊎ (s ≡ Memory) → Writes a s held held
 writes_nothing a s held (inl e) = rw e (gains_nothing held)
 writes_nothing a s held (inr e) = rw e ([], (text_of a.lines, refl), gains_nothing held)
 
--- a verdict is answered only for a verdict
-pub verdict_is : (a : Answer) (result : Status) (before after : Option (List ℕ)) (m n : ℕ)
-    → Written a result before after m n → IsVerdict result → IsVerdict a.status
-verdict_is a result before after m n (inl put) (inl v) = inl (sym put.0 ∙ v)
-verdict_is a result before after m n (inl put) (inr v) = inr (sym put.0 ∙ v)
-verdict_is a result before after m n (inr (inl put)) (inl v) = absurd (cc)
-verdict_is a result before after m n (inr (inl put)) (inr v) = absurd (cc)
-verdict_is a result before after m n (inr (inr put)) (inl v) = absurd (cc)
-verdict_is a result before after m n (inr (inr put)) (inr v) = absurd (cc)
+-- where an answer is not one of a decision, nor is what the call answers
+pub no_decision : (m : Mode) (a : Answer) (result : Status) (before after : Option (List ℕ)) (i j : ℕ)
+    → Written a result before after i j → IsUndecided a.status → IsDecision m result → ⊥
+no_decision m a result before after i j (inl put) is decision = undecided m a.status is (subst (IsDecision m) put.0 decision)
+no_decision m a result before after i j (inr (inl put)) is decision = undecided m WriteFault tt (subst (IsDecision m) put.0 decision)
+no_decision m a result before after i j (inr (inr put)) is decision = undecided m Memory tt (subst (IsDecision m) put.0 decision)
 
--- usage and faults are no verdicts
-pub usage_is_none : (s : Status) → s ≡ Usage → IsVerdict s → ⊥
-usage_is_none s e (inl h) = cc
-usage_is_none s e (inr h) = cc
+-- ---- lines and a status
 
-pub fault_is_none : (s : Status) → (s ≡ ReadFault) ⊎ (s ≡ Memory) → IsVerdict s → ⊥
-fault_is_none s (inl e) (inl h) = cc
-fault_is_none s (inl e) (inr h) = cc
-fault_is_none s (inr e) (inl h) = cc
-fault_is_none s (inr e) (inr h) = cc
+-- the status of what was put
+pub put_written : (a : Answer) (r : Result Status WriteError) (before after : Option (List ℕ)) (m n : ℕ)
+    → IfOk r (λ s. s ≡ a.status) → lines.Writes before after m n r a.lines → Written a (status_of r) before after m n
+put_written a (Ok s) before after m n is put = inl (is, put.written)
+put_written a (Err write.Write) before after m n is put = inr (inl (refl, put.front, put.fault refl))
+put_written a (Err write.Memory) before after m n is put = inr (inr (refl, put.front))
+
+-- ---- lines of a call that answers a status
+
+-- whether they were put
+abbrev pub done : {T : Type 0} → Result T WriteError → Result ⊤ WriteError
+done (Ok x) = Ok tt
+done (Err e) = Err e
+
+with_status : (a b : Option (List ℕ)) (i j : ℕ) (r : Result Status WriteError) (ls : List (List ℕ))
+    → lines.Writes {T = ⊤} a b i j (done r) ls → lines.Writes a b i j r ls
+with_status a b i j (Ok s) ls put = record {
+  written = put.written;
+  front = tt;
+  later = put.later;
+  fault = λ e. absurd (cc);
+  kept = λ n. put.kept (λ e. absurd (cc));
+}
+with_status a b i j (Err write.Write) ls put = record {
+  written = tt;
+  front = put.front;
+  later = put.later;
+  fault = λ e. put.fault refl;
+  kept = λ n. absurd (n refl);
+}
+with_status a b i j (Err write.Memory) ls put = record {
+  written = tt;
+  front = put.front;
+  later = put.later;
+  fault = λ e. absurd (cc);
+  kept = λ n. put.kept (λ e. absurd (cc));
+}
+
+without_status : (a b : Option (List ℕ)) (i j : ℕ) (r : Result Status WriteError) (ls : List (List ℕ))
+    → lines.Writes a b i j r ls → lines.Writes {T = ⊤} a b i j (done r) ls
+without_status a b i j (Ok s) ls put = record {
+  written = put.written;
+  front = tt;
+  later = put.later;
+  fault = λ e. absurd (cc);
+  kept = λ n. put.kept (λ e. absurd (cc));
+}
+without_status a b i j (Err write.Write) ls put = record {
+  written = tt;
+  front = put.front;
+  later = put.later;
+  fault = λ e. put.fault refl;
+  kept = λ n. absurd (n refl);
+}
+without_status a b i j (Err write.Memory) ls put = record {
+  written = tt;
+  front = put.front;
+  later = put.later;
+  fault = λ e. absurd (cc);
+  kept = λ n. put.kept (λ e. absurd (cc));
+}
+
+-- lines of such a call behind others
+pub puts_more : (a b c : Option (List ℕ)) (i j k : ℕ) (r : Result Status WriteError) (ls ms : List (List ℕ))
+    → lines.Writes {T = ⊤} a b i j (Ok tt) ls → lines.Writes b c j k r ms → lines.Writes a c i k r (ls ++ ms)
+puts_more a b c i j k r ls ms first second =
+    with_status a c i k r (ls ++ ms)
+    (writes_more a b c i j k (done r) ls ms first (without_status b c j k r ms second))
+
+failed_done : (r : Result Status WriteError) (e : WriteError) → IsErrAnd r (λ x. x ≡ e) → IsErrAnd (done r) (λ x. x ≡ e)
+failed_done (Ok s) e is = absurd is
+failed_done (Err x) e is = is
+
+-- where a call fails, the lines that were to follow are left out
+pub puts_less : (a b : Option (List ℕ)) (i j : ℕ) (e : WriteError) (r : Result Status WriteError) (ls ms : List (List ℕ))
+    → IsErrAnd r (λ x. x ≡ e) → lines.Writes {T = ⊤} a b i j (Err e) ls → lines.Writes a b i j r (ls ++ ms)
+puts_less a b i j e r ls ms is put =
+    with_status a b i j r (ls ++ ms) (writes_less a b i j e (done r) ls ms (failed_done r e is) put)
+
+-- an error, and Ok, of such a call tell what they tell of its lines
+pub puts_error : (a b : Option (List ℕ)) (i j : ℕ) (e : WriteError) (r : Result Status WriteError) (ls : List (List ℕ))
+    → IsErrAnd r (λ x. x ≡ e) → lines.Writes {T = ⊤} a b i j (Err e) ls → lines.Writes a b i j r ls
+puts_error a b i j e (Ok s) ls is put = absurd is
+puts_error a b i j e (Err write.Write) ls is put =
+    record {
+      written = tt;
+      front = put.front;
+      later = put.later;
+      fault = λ w. put.fault (ap Err (sym is));
+      kept = λ n. absurd (n refl);
+    }
+puts_error a b i j e (Err write.Memory) ls is put =
+    record {
+      written = tt;
+      front = put.front;
+      later = put.later;
+      fault = λ w. absurd (cc);
+      kept = λ n. put.kept (λ w. absurd (cc));
+    }
+
+pub puts_ok : (a b : Option (List ℕ)) (i j : ℕ) (s : Status) (ls : List (List ℕ)) → lines.Writes {T = ⊤} a b i j (Ok tt) ls
+    → lines.Writes a b i j (Ok s) ls
+puts_ok a b i j s ls put = record {
+  written = put.written;
+  front = tt;
+  later = put.later;
+  fault = λ e. absurd (cc);
+  kept = λ n. put.kept (λ e. absurd (cc));
+}
+
+-- where there is no memory, nothing is put
+pub puts_none : (held : Option (List ℕ)) (faults : ℕ) (r : Result Status WriteError) (ls : List (List ℕ))
+    → IsErrAnd r (λ e. e ≡ write.Memory) → lines.Writes held held faults faults r ls
+puts_none held faults r ls is =
+    with_status held held faults faults r ls (writes_none held faults (done r) ls (failed_done r write.Memory is))
+
+-- what is said of Ok holds at an error
+pub at_error : {T E : Type 0} (P : T → Type 0) (Q : E → Type 0) (r : Result T E) → IsErrAnd r Q → IfOk r P
+at_error P Q (Ok t) is = absurd is
+at_error P Q (Err e) is = tt
+
+-- ---- answers of modes
+
+verdict_answered : (zero : Bool) → IsAnswered (verdict zero)
+verdict_answered true = tt
+verdict_answered false = tt
+
+proof_answered : (objects : List Worked) (stop : Option Stop) → IsAnswered (last_status objects stop)
+proof_answered objects (Some stop) = tt
+proof_answered objects None = verdict_answered (ends_in_zero objects)
+
+run_answered : (stop : Option Stop) → IsAnswered (run_status stop)
+run_answered (Some stop) = tt
+run_answered None = tt
+
+pub mode_answered : (m : Mode) (input : List ℕ) (a : Answer) → IsModeAnswer m input a → IsAnswered a.status
+mode_answered (mode.Prove options) input a (inl (f, is, e)) = rw e tt
+mode_answered (mode.Prove options) input a (inr (c, gives, e)) =
+    rw e (proof_answered (log_of options c).objects (log_of options c).stop)
+mode_answered (mode.Sample number budget) input a e = rw e (run_answered (sample_log number budget).stop)
+
+-- ---- calls of modes
+
+-- a call that puts a mode's answer tells it
+pub put_tells : (m : Mode) (input : List ℕ) (r : Result Status WriteError) (before after : Option (List ℕ)) (i j : ℕ)
+    → PutsAnswer (IsModeAnswer m input) (IsDecision m) (Decides m input) r before after i j
+    → Tells m input (status_of r) before after i j
+put_tells m input r before after i j put = record {
+  answer = put.answer;
+  is_answer = put.right;
+  decides = decides r put.means;
+  written = put_written put.answer r before after i j put.status put.writes;
+  later = put.writes.later;
+}
+  where
+    decides : (r : Result Status WriteError) → IfOk r (λ s. IsDecision m s → Decides m input put.answer)
+        → IsDecision m (status_of r) → Decides m input put.answer
+    decides (Ok s) means = means
+    decides (Err write.Write) means = λ decision. absurd (undecided m WriteFault tt decision)
+    decides (Err write.Memory) means = λ decision. absurd (undecided m Memory tt decision)
+
+-- a mode that reads nothing tells the same of each input
+pub any_input : (m : Mode) (input : List ℕ) (s : Status) (before after : Option (List ℕ)) (i j : ℕ) → longest_input m ≡ None
+    → Tells m [] s before after i j → Tells m input s before after i j
+any_input (mode.Prove options) input s before after i j unread tells = absurd cc
+any_input (mode.Sample number budget) input s before after i j unread tells = record {
+  answer = tells.answer;
+  is_answer = tells.is_answer;
+  decides = tells.decides;
+  written = tells.written;
+  later = tells.later;
+}

@@ -1,8 +1,11 @@
 -- What a run of a construction decides.
-use Rattle.std.proofs.Common.{◌≡◌, ℕ, ◌-◌, ◌<◌, List, [], ◌∷◌, ◌++◌, map, flat_map, length, codes, Option, None, Some, refl, sym, ap, ◌∙◌, subst, arith, append_assoc, append-nil, length-append}
+use Rattle.std.proofs.Common.{◌≡◌, ℕ, ◌-◌, ◌<◌, ◌==◌, Bool, true, false, List, [], ◌∷◌, ◌++◌, map, flat_map, length}
+use Rattle.std.proofs.Common.{codes, Option, None, Some, refl, sym, ap, ◌∙◌, subst, arith, append_assoc, append-nil}
+use Rattle.std.proofs.Common.{length-append}
 use Rattle.std.specs.Prelude.{slice_get, decimal}
 use Rattle.std.specs.List.{AllByRecursion}
 use Rattle.std.proofs.Math.Seq.{get_or-append_seam}
+use Rattle.std.proofs.lemmas.Bool.Decides.{Decides-eqb}
 use Rattle.std.proofs.lemmas.Grind.{flat_map-append}
 use Rattle.std.proofs.lemmas.Option.{slice_get-get_or}
 use Rattle.coordinate_model.specs.Sequences.{IsRank}
@@ -15,18 +18,19 @@ use Rattle.coordinate_model.proofs.Independence.{same_normal}
 use Rattle.coordinate_model.proofs.PolynomialRing.{value_at-hom}
 use Rattle.construction_reader.specs.Said.{Account}
 use Rattle.construction_reader.specs.TextOf.{TextOf}
-use Rattle.step_types.specs.Checks.{names_of}
+use Rattle.step_types.specs.Checks.{names_of, IsGood}
 use Rattle.step_types.specs.declared.names.Names.{Names}
 use Rattle.bracket_poly.specs.Sections.{Rewritten, Worked}
 use Rattle.cayley_terms.specs.Meaning.{conclusion_polynomial}
 use Rattle.cayley_run.specs.Runs.{Log}
 use Rattle.cayley_run.specs.RunLaws.{IsEndOf, EndsWell, AllEndWell, LastEnds}
 use Rattle.proof_text.specs.Lines.{spaced}
+use Rattle.proof_text.specs.Forms.{verdict_word}
 use Rattle.proof_text.specs.Terms.{point_names, polynomial_lines}
 use Rattle.proof_text.specs.Proofs.{use_line, end_lines, section_lines, object_lines, head_lines}
 use Rattle.prover.specs.declared.status.Status.TheVariants.{Proved, Refuted}
-use Rattle.prover.specs.Answer.{proof, last_of, end_terms, last_terms, verdict, verdict_line}
-use Rattle.prover.specs.Outcome.{Decides}
+use Rattle.prover.specs.Modes.Prove.{ProveDecides, proof, verdict}
+use Rattle.prover.specs.Runs.{last_of, end_in, last_end, is_zero, ends_in_zero}
 
 -- ---- the last item
 
@@ -41,19 +45,22 @@ all_last : {A : Type 0} (P : A → Type 0) (xs : List A) (x : A) → AllByRecurs
 all_last P [] x all = all.0
 all_last P (y ∷ xs) x all = all_last P xs x all.1
 
--- the terms with which the last section of an object ends
-abbrev in_object : Option Worked → Terms Key
-in_object o = elim o [
-  | None ↦ []
-  | Some object ↦ elim (last_of object.sections) [ None ↦ [] | Some section ↦ end_terms section ]
-]
+-- with what the last object ends
+abbrev in_object : Option Worked → Option BracketPolynomial
+in_object o = elim o [ None ↦ None | Some object ↦ end_in object.sections ]
 
--- the terms with which a log ends
-terms_at_end : (log : Log) (end : BracketPolynomial) → LastEnds log end → last_terms log.objects ≡ end.terms
-terms_at_end log end e =
+-- with what a log ends
+pub end_of : (log : Log) (end : BracketPolynomial) → LastEnds log end → last_end log.objects ≡ Some end
+end_of log end e =
     let object : Worked = record { number = e.number; step = e.step; sections = e.section ∷ [] } in
-    let in_end = λ (o : Option BracketPolynomial). elim o as (λ x. Terms Key) [ None ↦ [] | Some polynomial ↦ polynomial.terms ] in
-    ap last_terms e.last ∙ ap in_object (last_of-push e.front object) ∙ ap in_end e.ends
+    ap last_end e.last ∙ ap in_object (last_of-push e.front object) ∙ e.ends
+
+abbrev tests : Option BracketPolynomial → Bool
+tests o = elim o [ None ↦ false | Some polynomial ↦ is_zero polynomial ]
+
+-- and whether that is zero
+pub zero_end : (log : Log) (end : BracketPolynomial) → LastEnds log end → ends_in_zero log.objects ≡ is_zero end
+zero_end log end e = ap tests (end_of log end e)
 
 -- and its last section is well ended
 well_ended : (d : ℕ) (log : Log) (end : BracketPolynomial) → AllEndWell d log.objects → LastEnds log end → IsNormal d 64 end
@@ -98,13 +105,26 @@ lines_end head f xs x front tail last e =
 
 -- ---- zero
 
-is_proved : (ts : Terms Key) → verdict ts ≡ Proved → ts ≡ []
-is_proved [] e = refl
-is_proved (t ∷ ts) e = absurd cc
+-- a list without a term is empty, by the test of its length
+none_left : (ts : Terms Key) → length ts ≡ 0 → ts ≡ []
+none_left [] e = refl
+none_left (t ∷ ts) e = absurd (omega arith)
 
-not_refuted : (ts : Terms Key) → verdict ts ≡ Refuted → ts ≡ [] → ⊥
-not_refuted [] e none = cc
-not_refuted (t ∷ ts) e none = cc
+tested : (b : Bool) → verdict b ≡ Proved → b ≡ true
+tested true e = refl
+tested false e = absurd cc
+
+is_proved : (ts : Terms Key) → verdict (length ts == 0) ≡ Proved → ts ≡ []
+is_proved ts e = none_left ts ((Decides-eqb (length ts) 0).0 (tested (length ts == 0) e))
+
+not_tested : (b : Bool) → verdict b ≡ Refuted → b ≡ true → ⊥
+not_tested true e is = cc
+not_tested false e is = cc
+
+not_refuted : (ts : Terms Key) → verdict (length ts == 0) ≡ Refuted → ts ≡ [] → ⊥
+not_refuted ts e none =
+    let zero : length ts ≡ 0 = ap (λ (xs : Terms Key). length xs) none in
+    not_tested (length ts == 0) e ((Decides-eqb (length ts) 0).1 zero)
 
 zero_value : (f : BracketPolynomial) → f.terms ≡ [] → value f ≡ Polynomials.𝟘
 unfolding value
@@ -117,32 +137,29 @@ no_terms d f rank normal zero =
 
 -- ---- what is decided
 
-pub decided : (c : Account) (log : Log) (end : BracketPolynomial) → IsRank c.rank → AllEndWell c.rank log.objects
+pub decided : (c : Account) (log : Log) (end : BracketPolynomial) → IsGood c → IsRank c.rank → AllEndWell c.rank log.objects
     → LastEnds log end → value end ≡ conclusion_polynomial c → (text : List ℕ) → TextOf text c
-    → Decides text (proof (names_of c) log.objects None)
-decided c log end rank well e same text gives =
+    → ProveDecides text (proof (names_of c) log.objects None)
+decided c log end good rank well e same text gives =
     let names = names_of c in
     let normal = well_ended c.rank log end well e in
     let object : Worked = record { number = e.number; step = e.step; sections = e.section ∷ [] } in
     let at_end = object_ends names e.number e.step e.section end e.ends in
-    let terms = terms_at_end log end e in
-    let zero : verdict (last_terms log.objects) ≡ Proved → conclusion_polynomial c ≡ Polynomials.𝟘 =
-    λ (is : verdict (last_terms log.objects) ≡ Proved). sym same ∙ zero_value end (is_proved end.terms (ap verdict (sym terms) ∙ is)) in
+    let test : ends_in_zero log.objects ≡ is_zero end = zero_end log end e in
+    let zero : verdict (ends_in_zero log.objects) ≡ Proved → conclusion_polynomial c ≡ Polynomials.𝟘 =
+    λ (is : verdict (ends_in_zero log.objects) ≡ Proved). sym same ∙ zero_value end (is_proved end.terms (ap verdict (sym test) ∙ is)) in
     record {
       account = c;
-      gives = gives;
+      gives = record { gives = gives; good = good };
       polynomial = end;
       normal = normal;
       same_value = same;
       front = head_lines names ++ (flat_map (object_lines names) e.front ++ at_end.0);
-      ends = ap (λ (ls : List (List ℕ)). head_lines names ++ (ls ++ verdict_line (last_terms log.objects) ∷ []))
-          (ap (flat_map (object_lines names)) e.last)
-          ∙ lines_end (head_lines names) (object_lines names) e.front object at_end.0 (codes "end" ∷ polynomial_lines names end)
-          (verdict_line (last_terms log.objects) ∷ []) at_end.1
-          ∙ ap (λ (ts : Terms Key). (head_lines names ++ (flat_map (object_lines names) e.front ++ at_end.0))
-          ++ ((codes "end" ∷ polynomial_lines names end) ++ verdict_line ts ∷ [])) terms;
+      ends = ap (λ (b : Bool). head_lines names ++ (flat_map (object_lines names) log.objects ++ verdict_word b ∷ [])) test
+          ∙ ap (λ (os : List Worked). head_lines names ++ (flat_map (object_lines names) os ++ verdict_word (is_zero end) ∷ [])) e.last
+          ∙ lines_end (head_lines names) (object_lines names) e.front object at_end.0
+          (codes "end" ∷ polynomial_lines names end) (verdict_word (is_zero end) ∷ []) at_end.1;
       proved = zero;
       everywhere = λ is at. ap (value_at at) (zero is) ∙ (value_at-hom at).to_zero;
-      refuted = λ is vanishes.
-          not_refuted end.terms (ap verdict (sym terms) ∙ is) (no_terms c.rank end rank normal (same ∙ vanishes));
+      refuted = λ is none. not_refuted end.terms (ap verdict (sym test) ∙ is) (no_terms c.rank end rank normal (same ∙ none));
     }

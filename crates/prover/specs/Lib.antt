@@ -1,5 +1,7 @@
 pub mod Numbers
 pub mod Answer
+pub mod Words
+pub mod Parts
+pub mod Runs
+pub mod Modes
 pub mod Outcome
-pub mod Reply
-pub mod Lines

@@ -1,11 +1,13 @@
 -- The number with which the program ends, by its status.
 use Rattle.std.specs.Prelude.{ℕ}
 use Rattle.prover.specs.declared.status.Status.{Status}
-use Rattle.prover.specs.declared.status.Status.TheVariants.{Proved, Refuted, Usage, TextRefused, Stopped, ReadFault, WriteFault, Memory}
+use Rattle.prover.specs.declared.status.Status.TheVariants.{Proved, Done, Refuted, Usage, TextRefused, Stopped}
+use Rattle.prover.specs.declared.status.Status.TheVariants.{ReadFault, WriteFault, Memory}
 
 -- the number of a status
 abbrev pub number_of : Status → ℕ
 number_of Proved = 0
+number_of Done = 0
 number_of Refuted = 1
 number_of Usage = 2
 number_of TextRefused = 3

@@ -1,7 +1,8 @@
 //! Laws of the answer, each the contract of a function that does nothing.
 
 ghost use Rattle.std.specs.Prelude.{◌≡◌, ℕ, List};
-ghost use Rattle.prover.specs.Answer.{Answer, IsAnswer};
+ghost use Rattle.prover.specs.Answer.{Answer};
+ghost use Rattle.prover.specs.Modes.{IsAnswer};
 
 /// Each list of words and each input has one answer.
 pub fn one_answer()

@@ -1,13 +1,16 @@
 //! The top call: all that the program does, over any source and sink of bytes.
 #![tactic(auto)]
 
+mod ending;
 mod laws;
 mod lines;
-mod reply;
+mod mode;
+mod modes;
+mod nowhere;
+mod parts;
 mod running;
 mod status;
 mod words;
-mod writing;
 
 pub use laws::one_answer;
 pub use running::run;

@@ -1,52 +1,26 @@
-//! Lines of text, and putting them into a sink.
+//! Putting lines into a sink.
 
-ghost use Rattle.std.specs.Prelude.{◌≡◌, ℕ, ◌<◌, ◌≤◌, List, ◌∷◌, [], length, OnOk};
-ghost use Rattle.proof_text.specs.Lines.{text_of};
-ghost use Rattle.cay_base.specs.Bytes.{Puts};
-ghost use Rattle.cay_base.specs.Causes.{HasCause};
+ghost use Rattle.std.specs.Prelude.{◌≡◌, ◌++◌, ◌∷◌, [], codes, IfOk};
 ghost use Rattle.proof_text.specs.Writes.{Writes};
-ghost use Rattle.prover.specs.Lines.{AddsLines};
 
-use cay_base::{Failed, NoMemory, Sink};
+use cay_base::{NoMemory, Sink};
 use proof_text::WriteError;
+use std::alloc::Global;
 
-/// Puts a line with this text behind the others.
-pub fn add_line(out: &mut Vec<u8>, text: &[u8]) -> Result<(), NoMemory>
-    ensures { OnOk result (AddsLines out.old.items out.new.items (text.now ∷ [])) }
+/// Puts a line with this text, its LF included, in one piece.
+pub fn put_line<K: Sink>(alloc: Global, text: &[u8], sink: &mut K) -> Result<(), WriteError>
+    ensures { Writes
+        (K.held sink.old) (K.held sink.new) (K.faults sink.old) (K.faults sink.new) result (text.now ∷ []) }
 {
-    out.extend_from_slice(text)?;
-    Ok(out.push(b'\n')?)
+    let line = line_of(alloc, text)?;
+    Ok(sink.put(&line)?)
 }
 
-/// Puts each line of the text by itself, its LF included.
-pub fn put_lines<K: Sink>(sink: &mut K, text: &[u8]) -> Result<(), Failed>
-    ensures bytes { Puts (K.held sink.old) (K.held sink.new) result text.now }
-    ensures cause { HasCause (K.faults sink.old) (K.faults sink.new) result }
+/// The text and a LF.
+fn line_of(alloc: Global, text: &[u8]) -> Result<Vec<u8>, NoMemory>
+    ensures { IfOk result (λ line. line.items ≡ text.now ++ 10 ∷ []) }
 {
-    let mut rest = text;
-    while !rest.is_empty() {
-        let (line, after) = rest.split_at(line_length(rest));
-        sink.put(line)?;
-        rest = after;
-    }
-    Ok(())
-}
-
-/// How many bytes the first line has, its LF included.
-fn line_length(text: &[u8]) -> usize
-    requires { 0 < length text.now }
-    ensures some { 0 < result }
-    ensures within { result ≤ length text.now }
-{
-    match text.iter().position(|byte| *byte == b'\n') {
-        Some(end) => end + 1,
-        None => text.len(),
-    }
-}
-
-/// Puts each line of the text by itself, as `put_lines` does, and tells a failure as a fault of writing.
-pub fn put_text<K: Sink>(sink: &mut K, text: &[u8]) -> Result<(), WriteError>
-    ensures { (lines : List (List ℕ)) → text.now ≡ text_of lines → Writes (K.held sink.old) (K.held sink.new) (K.faults sink.old) (K.faults sink.new) result lines }
-{
-    Ok(put_lines(sink, text)?)
+    let mut line = Vec::from_slice(alloc, text)?;
+    line.push(b'\n')?;
+    Ok(line)
 }

@@ -1,16 +1,19 @@
 //! The program over any source and sink.
 
-ghost use Rattle.std.specs.Prelude.{◌≡◌, ◌⊎◌, [], Some, map, string_bytes, IfSome};
+ghost use Rattle.std.specs.Prelude.{◌≡◌, ◌≤◌, ◌⊎◌, [], Some, None, map, string_bytes, codes, IfSome};
 ghost use Rattle.cay_base.specs.Causes.{Rose};
-ghost use Rattle.prover.specs.Answer.{IsUsage, usage};
-ghost use Rattle.prover.specs.Outcome.{Answers, IsVerdict, Written};
+ghost use Rattle.prover.specs.Answer.{usage, refused};
+ghost use Rattle.prover.specs.Modes.{IsMode, IsUsage, IsUnread, IsReadToEnd, HasNumber, longest_input};
+ghost use Rattle.prover.specs.Outcome.{Answers, ModeAnswers, Written};
 
-use crate::lines::put_lines;
-use crate::reply::reply_to_source;
+use crate::ending::status_of;
+use crate::lines::put_line;
+use crate::mode::Mode;
+use crate::modes::tell;
 use crate::status::Status;
-use crate::words::prove_budget;
-use crate::writing::write_reply;
-use cay_base::{Sink, Source};
+use crate::words::mode_of;
+use cay_base::{ReadError, Sink, Source, read_all};
+use proof_text::WriteError;
 use std::alloc::Global;
 
 /// What is written where the words are in none of the lists.
@@ -24,29 +27,62 @@ pub fn run<S: Source, K: Sink>(
     source: &mut S,
     sink: &mut K,
 ) -> Status
-    ensures answers { Answers (map string_bytes words.now) (S.left source.old) (K.held sink.old) (K.held sink.new) result }
+    ensures answers { Answers (map string_bytes words.now) (S.left source.old)
+        (K.held sink.old) (K.held sink.new) result }
 
     ensures usage { IsUsage (map string_bytes words.now) → (result ≡ Status.Usage) ⊎ (result ≡ Status.WriteFault) }
-    ensures unread { IsUsage (map string_bytes words.now) → source.new ≡ source.old }
-    ensures to_the_end { IsVerdict result → IfSome (S.left source.old) (λ _. S.left source.new ≡ Some []) }
-    ensures read_fault { result ≡ Status.ReadFault → Rose (S.faults source.old) (S.faults source.new) }
+    ensures unread { IsUnread (map string_bytes words.now) → source.new ≡ source.old }
+    ensures to_the_end { (m : Mode) → IsMode (map string_bytes words.now) m → IsReadToEnd m result
+        → IfSome (S.left source.old) (λ _. S.left source.new ≡ Some []) }
+    ensures read_fault { result ≡ Status.ReadFault
+        → Rose (S.faults source.old) (S.faults source.new) × (sink.new ≡ sink.old) }
     ensures write_fault { result ≡ Status.WriteFault → Rose (K.faults sink.old) (K.faults sink.new) }
+    ensures later { (S.faults source.old ≤ S.faults source.new) × (K.faults sink.old ≤ K.faults sink.new) }
 {
-    let Some(budget) = prove_budget(words) else {
-        return write_usage(sink);
-    };
-    match reply_to_source(alloc, budget, source) {
-        Ok(reply) => write_reply(alloc, &reply, sink),
-        Err(status) => status,
+    match mode_of(words) {
+        Some(mode) => run_mode(alloc, mode, source, sink),
+        None => write_usage(sink),
     }
+}
+
+/// Reads what the mode reads, and does what it does.
+fn run_mode<S: Source, K: Sink>(alloc: Global, mode: Mode, source: &mut S, sink: &mut K) -> Status
+    requires { HasNumber mode }
+    ensures answers { ModeAnswers mode (S.left source.old) (K.held sink.old) (K.held sink.new) result }
+    ensures unread { longest_input mode ≡ None → source.new ≡ source.old }
+    ensures to_the_end { IsReadToEnd mode result → IfSome (S.left source.old) (λ _. S.left source.new ≡ Some []) }
+    ensures read_fault { result ≡ Status.ReadFault
+        → Rose (S.faults source.old) (S.faults source.new) × (sink.new ≡ sink.old) }
+    ensures write_fault { result ≡ Status.WriteFault → Rose (K.faults sink.old) (K.faults sink.new) }
+    ensures later { (S.faults source.old ≤ S.faults source.new) × (K.faults sink.old ≤ K.faults sink.new) }
+{
+    let Some(longest) = mode.longest_input() else {
+        return tell(alloc, mode, &[], sink);
+    };
+    match read_all(alloc, source, longest) {
+        Ok(input) => tell(alloc, mode, &input, sink),
+        Err(ReadError::TooLong) => refuse_long(alloc, sink),
+        Err(ReadError::Read) => Status::ReadFault,
+        Err(ReadError::Memory) => Status::Memory,
+    }
+}
+
+/// Refuses an input that is too long.
+fn refuse_long<K: Sink>(alloc: Global, sink: &mut K) -> Status
+    ensures written { Written (refused (codes "long")) result
+        (K.held sink.old) (K.held sink.new) (K.faults sink.old) (K.faults sink.new) }
+    ensures later { K.faults sink.old ≤ K.faults sink.new }
+{
+    status_of(put_line(alloc, b"refused long", sink).map(|()| Status::TextRefused))
 }
 
 /// Writes the usage line.
 fn write_usage<K: Sink>(sink: &mut K) -> Status
     ensures written { Written usage result (K.held sink.old) (K.held sink.new) (K.faults sink.old) (K.faults sink.new) }
     ensures status { (result ≡ Status.Usage) ⊎ (result ≡ Status.WriteFault) }
+    ensures later { K.faults sink.old ≤ K.faults sink.new }
 {
-    match put_lines(sink, USAGE) {
+    match sink.put(USAGE) {
         Ok(()) => Status::Usage,
         Err(_) => Status::WriteFault,
     }

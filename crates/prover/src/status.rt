@@ -7,6 +7,8 @@ ghost use Rattle.std.specs.Prelude.{◌≡◌};
 pub enum Status {
     /// The conclusion's polynomial is zero.
     Proved,
+    /// A mode that decides nothing came to its end.
+    Done,
     /// The conclusion's polynomial is not zero.
     Refuted,
     /// The words are in none of the lists.
@@ -32,6 +34,7 @@ impl Status {
     {
         match self {
             Status::Proved => 0,
+            Status::Done => 0,
             Status::Refuted => 1,
             Status::Usage => 2,
             Status::TextRefused => 3,

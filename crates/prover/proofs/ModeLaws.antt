@@ -1,0 +1,158 @@
+-- Modes, by the words that name them.
+use Rattle.std.proofs.Common.{◌≡◌, ◌≢◌, ◌⊎◌, inl, inr, ℕ, Bool, true, false, true≢false, List, [], ◌∷◌, MatchOption}
+use Rattle.std.proofs.Common.{codes, refl, sym, ap, ◌∙◌, subst, lit<}
+use Rattle.std.specs.Bool.{Decides}
+use Rattle.std.specs.Str.{bytes_eq}
+use Rattle.std.proofs.lemmas.Slice.Eq.{bytes_eq-Decides}
+use Rattle.cayley_run.specs.declared.answer.Options.{Options}
+use Rattle.prover.specs.declared.mode.Mode.{Mode}
+use Rattle.prover.specs.declared.mode.Mode.TheVariants as mode
+use Rattle.std.specs.Prelude.{decimal}
+use Rattle.prover.specs.Words.{IsNumber, NoNumber, GiveOptions, NoOptions}
+use Rattle.prover.specs.Modes.Sample.{sample_options}
+use Rattle.prover.specs.Modes.{IsMode, IsUsage}
+use Rattle.prover.proofs.Choices.{one_give, some_give}
+use Rattle.prover.proofs.WordLists.{some_number, one_number}
+
+abbrev Words : Type 0
+Words = List (List ℕ)
+
+pub no_words : (ws : Words) → ws ≡ [] → IsUsage ws
+no_words ws none (mode.Prove options) is = let e = is.front in cc
+no_words ws none (mode.Sample number budget) is = let e = is.front in cc
+
+pub no_mode : (ws rest : Words) (word : List ℕ) → ws ≡ word ∷ rest → word ≢ codes "prove" → word ≢ codes "sample" → IsUsage ws
+no_mode ws rest word front prove sample (mode.Prove options) is = let e = is.front in prove (cc)
+no_mode ws rest word front prove sample (mode.Sample number budget) is = let e = is.front in sample (cc)
+
+-- ---- words behind `prove`
+
+pub is_prove : (ws rest : Words) (options : Options) → ws ≡ codes "prove" ∷ rest → GiveOptions rest options
+    → IsMode ws (mode.Prove options)
+is_prove ws rest options front is = record { rest = rest; front = front; options = is; number = tt }
+
+behind_prove : (ws rest : Words) (options : Options) → ws ≡ codes "prove" ∷ rest → IsMode ws (mode.Prove options)
+    → GiveOptions rest options
+behind_prove ws rest options front is =
+    let e = is.front in
+    let same : is.rest ≡ rest = cc in subst (λ (xs : Words). GiveOptions xs options) same is.options
+
+pub no_options : (ws rest : Words) → ws ≡ codes "prove" ∷ rest → NoOptions rest → IsUsage ws
+no_options ws rest front none (mode.Prove options) is = none options (behind_prove ws rest options front is)
+no_options ws rest front none (mode.Sample number budget) is = let e = is.front in cc
+
+-- ---- words behind `sample`
+
+pub is_sample : (ws rest : Words) (word : List ℕ) (n : ℕ) (options : Options) → ws ≡ codes "sample" ∷ word ∷ rest
+    → IsNumber 12 word n → GiveOptions rest options → options.contract ≡ false → IsMode ws (mode.Sample n options.budget)
+is_sample ws rest word n options front number is plain = record {
+  rest = rest;
+  front = front ∙ ap (λ (w : List ℕ). codes "sample" ∷ w ∷ rest) number.spelled;
+  options = subst (GiveOptions rest) (ap (λ (b : Bool). record { budget = options.budget; contract = b }) plain) is;
+  number = (number.least, number.within);
+}
+
+-- what is behind the mode's word
+record Behind (more : Words) (number budget : ℕ) : Type 0 where
+  word : List ℕ
+  rest : Words
+  more_is : more ≡ word ∷ rest
+  is : IsNumber 12 word number
+  options : GiveOptions rest (sample_options budget)
+
+behind_sample : (ws more : Words) (number budget : ℕ) → ws ≡ codes "sample" ∷ more → IsMode ws (mode.Sample number budget)
+    → Behind more number budget
+behind_sample ws more number budget front is =
+    let e = is.front in
+    record {
+      word = decimal number;
+      rest = is.rest;
+      more_is = (cc);
+      is = record { spelled = refl; least = is.number.0; within = is.number.1 };
+      options = is.options;
+    }
+
+-- no sample is named by what is behind the mode's word
+no_sample : (ws more : Words) → ws ≡ codes "sample" ∷ more → ((number budget : ℕ) → Behind more number budget → ⊥) → IsUsage ws
+no_sample ws more front none (mode.Prove options) is = let e = is.front in cc
+no_sample ws more front none (mode.Sample number budget) is = none number budget (behind_sample ws more number budget front is)
+
+pub sample_alone : (ws : Words) → ws ≡ codes "sample" ∷ [] → IsUsage ws
+sample_alone ws front = no_sample ws [] front none
+  where
+    none : (number budget : ℕ) → Behind [] number budget → ⊥
+    none number budget b = let e = b.more_is in cc
+
+module _ (ws rest : Words) (word : List ℕ) (front : ws ≡ codes "sample" ∷ word ∷ rest) where
+  same_word : (number budget : ℕ) (b : Behind (word ∷ rest) number budget) → b.word ≡ word
+  same_word number budget b = let e = b.more_is in cc
+
+  same_rest : (number budget : ℕ) (b : Behind (word ∷ rest) number budget) → GiveOptions rest (sample_options budget)
+  same_rest number budget b =
+      let e = b.more_is in
+      let same : b.rest ≡ rest = cc in subst (λ (xs : Words). GiveOptions xs (sample_options budget)) same b.options
+
+  pub sample_of_none : NoNumber 12 word → IsUsage ws
+  sample_of_none none =
+      no_sample ws (word ∷ rest) front
+      (λ number budget b. none number (subst (λ (w : List ℕ). IsNumber 12 w number) (same_word number budget b) b.is))
+
+  pub sample_without : NoOptions rest → IsUsage ws
+  sample_without none =
+      no_sample ws (word ∷ rest) front (λ number budget b. none (sample_options budget) (same_rest number budget b))
+
+  pub sample_contracted : (options : Options) → GiveOptions rest options → options.contract ≡ true → IsUsage ws
+  sample_contracted options gives on = no_sample ws (word ∷ rest) front (λ number budget b.
+      let same : options ≡ sample_options budget = one_give rest options (sample_options budget) gives (same_rest number budget b) in
+      true≢false (sym on ∙ ap (λ (o : Options). o.contract) same))
+
+-- ---- each list of words names one mode, or none
+
+pub one_mode : (ws : Words) (a b : Mode) → IsMode ws a → IsMode ws b → a ≡ b
+one_mode ws (mode.Prove a) (mode.Prove b) is also =
+    ap mode.Prove (one_give is.rest a b is.options (behind_prove ws is.rest b is.front also))
+one_mode ws (mode.Prove a) (mode.Sample m y) is also = let e = is.front in let w = also.front in absurd cc
+one_mode ws (mode.Sample n x) (mode.Prove b) is also = let e = is.front in let w = also.front in absurd cc
+one_mode ws (mode.Sample n x) (mode.Sample m y) is also =
+    let b = behind_sample ws (decimal n ∷ is.rest) m y is.front also in
+    let number : n ≡ m =
+    one_number 12 (decimal n) n m (lit< tt) (record { spelled = refl; least = is.number.0; within = is.number.1 })
+    (subst (λ (w : List ℕ). IsNumber 12 w m) (same_word ws is.rest (decimal n) is.front m y b) b.is) in
+    let options : sample_options x ≡ sample_options y =
+    one_give is.rest (sample_options x) (sample_options y) is.options (same_rest ws is.rest (decimal n) is.front m y b) in
+    ap (λ (k : ℕ). mode.Sample k x) number ∙ ap (λ (o : Options). mode.Sample m o.budget) options
+
+abbrev Named : Words → Type 0
+Named ws = ((m : Mode) × IsMode ws m) ⊎ IsUsage ws
+
+some_prove : (rest : Words) → ((options : Options) × GiveOptions rest options) ⊎ NoOptions rest → Named (codes "prove" ∷ rest)
+some_prove rest (inl w) = inl (mode.Prove w.0, is_prove (codes "prove" ∷ rest) rest w.0 refl w.1)
+some_prove rest (inr none) = inr (no_options (codes "prove" ∷ rest) rest refl none)
+
+some_sample : (rest : Words) → Named (codes "sample" ∷ rest)
+some_sample [] = inr (sample_alone (codes "sample" ∷ []) refl)
+some_sample (word ∷ rest) = go (some_number 12 word (lit< tt)) (some_give rest)
+  where
+    plain : (n : ℕ) (options : Options) (on : Bool) → options.contract ≡ on → IsNumber 12 word n → GiveOptions rest options
+        → Named (codes "sample" ∷ word ∷ rest)
+    plain n options false on number gives =
+        inl (mode.Sample n options.budget, is_sample (codes "sample" ∷ word ∷ rest) rest word n options refl number gives on)
+    plain n options true on number gives = inr (sample_contracted (codes "sample" ∷ word ∷ rest) rest word refl options gives on)
+
+    go : ((n : ℕ) × IsNumber 12 word n) ⊎ NoNumber 12 word → ((options : Options) × GiveOptions rest options) ⊎ NoOptions rest
+        → Named (codes "sample" ∷ word ∷ rest)
+    go (inl n) (inl w) = plain n.0 w.0 w.0.contract refl n.1 w.1
+    go (inl n) (inr none) = inr (sample_without (codes "sample" ∷ word ∷ rest) rest word refl none)
+    go (inr none) some = inr (sample_of_none (codes "sample" ∷ word ∷ rest) rest word refl none)
+
+pub some_mode : (ws : Words) → Named ws
+some_mode [] = inr (no_words [] refl)
+some_mode (word ∷ rest) =
+    go (bytes_eq word (codes "prove")) (bytes_eq word (codes "sample")) (bytes_eq-Decides word (codes "prove"))
+    (bytes_eq-Decides word (codes "sample"))
+  where
+    go : (a b : Bool) → Decides a (word ≡ codes "prove") → Decides b (word ≡ codes "sample") → Named (word ∷ rest)
+    go true b prove sample = rw (prove.0 refl) (some_prove rest (some_give rest))
+    go false true prove sample = rw (sample.0 refl) (some_sample rest)
+    go false false prove sample =
+        inr (no_mode (word ∷ rest) rest word refl (λ e. true≢false (sym (prove.1 e))) (λ e. true≢false (sym (sample.1 e))))
