@@ -1,0 +1,14 @@
+pub mod LeastKeys
+pub mod Decisions
+pub mod UseSteps
+pub mod SectionFacts
+pub mod StartFacts
+pub mod ConicStarts
+pub mod ObjectWork
+pub mod AcceptedObjects
+pub mod Instructions
+pub mod ProgramMeaning
+pub mod ObjectSteps
+pub mod ProofDecisions
+pub mod KeyBounds
+pub mod RefusalBounds

@@ -1,0 +1,10 @@
+pub mod Claims
+pub mod Starts
+pub mod Accepted
+pub mod Objects
+pub mod Differences
+pub mod Refused
+pub mod ProofRefused
+pub mod SectionLaws
+pub mod ProofLaws
+pub mod Bounds
