@@ -7,7 +7,7 @@ use Rattle.coordinate_model.specs.Sequences.{IsRank}
 use Rattle.coordinate_model.specs.BracketPolynomial.{BracketPolynomial, value}
 use Rattle.coordinate_model.specs.Polynomial.{Polynomials}
 use Rattle.coordinate_model.specs.Starts.{Entry, Product, has_term}
-use Rattle.coordinate_model.specs.Value.{Value, coordinates}
+use Rattle.coordinate_model.specs.Value.{coordinates}
 use Rattle.coordinate_model.proofs.KeySumLaws.{normal-is}
 use Rattle.coordinate_model.proofs.Splits.{all_filter}
 use Rattle.coordinate_model.proofs.StartLaws.{zero_entries}
@@ -16,8 +16,8 @@ use Rattle.coordinate_model.proofs.ValueLaws.{free, coordinates-more}
 use Rattle.bracket_poly.specs.Tracked.{Limit}
 use Rattle.shuffle_meet.specs.Stops.{Start, first_stop}
 use Rattle.shuffle_meet.specs.SectionStarts.{section_starts}
-use Rattle.shuffle_meet.proofs.StartSums.{entry_at, entries_at}
-use Rattle.log_checker.specs.Claims.{Claim, rewriting, ended_value}
+use Rattle.shuffle_meet.proofs.StartSums.{entries_at}
+use Rattle.log_checker.specs.Claims.{Claim, ended_value}
 use Rattle.log_checker.specs.Starts.{starts_by}
 use Rattle.log_checker.specs.Accepted.{IsAccepted, start_entry, claimed_entry}
 use Rattle.log_checker.specs.ProofLaws.{HaveUses}

@@ -1,25 +1,17 @@
 -- The value of the six-point polynomial of six points.
-use Rattle.std.proofs.Common.{◌≡◌, ℕ, ◌+◌, [], ◌∷◌, ◌++◌, map, All, refl, sym, ap, ap₂, subst, ◌∙◌, arith}
+use Rattle.std.proofs.Common.{◌≡◌, [], ◌∷◌, map, All, refl, sym, ap, subst, ◌∙◌, arith}
 use Rattle.std.specs.Prelude.{Ok}
-use lib.ListN.{length-append}
 use Rattle.std.specs.List.{AllByRecursion}
 use Rattle.coordinate_model.specs.Sequences.{subsets}
 use Rattle.coordinate_model.specs.Brackets.{join, six_point, join_bracket}
 use Rattle.coordinate_model.specs.Ring.{IsHom}
 use Rattle.coordinate_model.specs.Polynomial.{Polynomials}
-use Rattle.coordinate_model.specs.Key.{IsKey}
-use Rattle.coordinate_model.specs.BracketPolynomial.{BracketPolynomial, IsBracketPolynomial, mul, value}
-use Rattle.coordinate_model.specs.Conics.{bracket_of_entries, bracket_of_values, conic_value}
-use Rattle.coordinate_model.specs.Starts.{Entry}
-use Rattle.coordinate_model.specs.Syzygy.{sorted_bracket}
+use Rattle.coordinate_model.specs.BracketPolynomial.{value}
+use Rattle.coordinate_model.specs.Conics.{conic_value}
 use Rattle.coordinate_model.specs.Value.{Value, HasStep, coordinates}
 use Rattle.coordinate_model.proofs.Agreement.{same-joins}
-use Rattle.coordinate_model.proofs.Closure.{key_times-is, length-add_exponents, length-add_none, sorted_bracket-is}
-use Rattle.coordinate_model.proofs.Closure.{all_sum_over}
 use Rattle.coordinate_model.proofs.ConicLaws.{conic_of_values_law}
 use Rattle.coordinate_model.proofs.Hom.{six_point-hom}
-use Rattle.coordinate_model.proofs.KeySets.{all_plus, all_minus, all_times}
-use Rattle.coordinate_model.proofs.Splits.{all_so}
 use Rattle.coordinate_model.proofs.StartSizes.{IsEntry, has_step}
 use Rattle.bracket_poly.specs.Tracked.{Tracked}
 use Rattle.cayley_terms.specs.Figures.{Figure}

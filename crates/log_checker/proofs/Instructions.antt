@@ -1,6 +1,6 @@
 -- One instruction more of those that are checked: it makes a free point, or an object.
 use Rattle.std.proofs.Common.{◌≡◌, ◌⊎◌, ℕ, suc, ◌+◌, List, [], ◌∷◌, ◌++◌, length, refl, sym, subst}
-use Rattle.std.specs.Prelude.{Option, Some, None}
+use Rattle.std.specs.Prelude.{Some, None}
 use Rattle.coordinate_model.specs.Value.{Value}
 use Rattle.step_types.specs.declared.measure.Measure.{Measure}
 use Rattle.cayley_terms.specs.declared.instr.Instr.{Instr}

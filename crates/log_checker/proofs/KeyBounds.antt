@@ -1,9 +1,9 @@
 -- The points and parameters of keys: of products, of starts, and of the sums of sections.
-use Rattle.std.proofs.Common.{◌≡◌, ◌≢◌, ◌⊎◌, inl, inr, ℕ, zero, suc, ◌+◌, ◌-◌, ◌<◌, ◌≤◌, ◌==◌, Bool, true, false}
+use Rattle.std.proofs.Common.{◌≡◌, ◌≢◌, ◌⊎◌, inl, inr, ℕ, zero, suc, ◌+◌, ◌-◌, ◌<◌, ◌==◌, Bool, true, false}
 use Rattle.std.proofs.Common.{cond, List, [], ◌∷◌, ◌++◌}
-use Rattle.std.proofs.Common.{length, refl, sym, ap, ap₂, subst, ◌∙◌, arith, flat_map, map, filter, replicate}
+use Rattle.std.proofs.Common.{length, refl, sym, ap, ap₂, subst, ◌∙◌, arith, flat_map, map, replicate}
 use Rattle.std.proofs.Common.{slice_set, get_or, nat_cmp}
-use Rattle.std.specs.Prelude.{Option, Some, None, Result, Ok, Err, ℤ, pos, ◌*ℤ◌, slice_get}
+use Rattle.std.specs.Prelude.{Some, None, Ok, ℤ, pos, ◌*ℤ◌, slice_get}
 use Rattle.std.specs.List.{AllByRecursion, cons_option}
 use Rattle.coordinate_model.specs.Sequences.{range, splits, at_places, repeats, sign_of}
 use Rattle.coordinate_model.specs.Sums.{coefficient}
@@ -21,7 +21,7 @@ use Rattle.coordinate_model.proofs.SortedRows.{all_ordered}
 use Rattle.coordinate_model.proofs.Splits.{all_so, all_append, all_map, all_flat_map, all_filter}
 use Rattle.coordinate_model.proofs.StartKeys.{keys-product, keys-start}
 use Rattle.bracket_poly.specs.Tracked.{Tracked, nothing}
-use Rattle.cayley_terms.specs.Starts.{one_of, free_value}
+use Rattle.cayley_terms.specs.Starts.{free_value}
 use Rattle.conic_points.specs.Makings.{made_conic}
 use Rattle.conic_points.proofs.Graded.{ValueHas, conic_has}
 use Rattle.shuffle_meet.specs.SectionStarts.{is_conclusion, section_starts}

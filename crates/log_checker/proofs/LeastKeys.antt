@@ -1,18 +1,18 @@
 -- The least key at which two lists of terms differ, and the least that is not standard: where a common front ends.
-use Rattle.std.specs.Prelude.{◌≡◌, ◌≢◌, ◌⊎◌, zero, suc, ℕ, Bool, true, false, cond, T, ℤ, pos, negsuc, ◌+ℤ◌, List, []}
+use Rattle.std.specs.Prelude.{◌≡◌, ◌≢◌, ℕ, Bool, true, false, cond, T, ℤ, pos, ◌+ℤ◌, []}
 use Rattle.std.specs.Prelude.{◌∷◌, ◌++◌}
 use Rattle.std.specs.FinMap.{is_sorted}
 use Rattle.std.specs.Cmp.{tied_itself}
 use Rattle.std.specs.FinMap.Entries.{below_all}
 use Rattle.std.specs.List.{AllByRecursion}
-use Rattle.std.specs.Ordering.{eq_by_cmp, is_eq, is_lt, ordering_reverse}
+use Rattle.std.specs.Ordering.{is_eq, is_lt, ordering_reverse}
 use Rattle.std.specs.declared.cmp.Ordering.{Ordering}
 use Rattle.std.specs.declared.cmp.Ordering.TheVariants.{Less, Equal, Greater}
-use Rattle.std.proofs.Common.{refl, sym, ap, ap₂, subst, ◌∙◌, arith, inl, inr, append_assoc, append-nil, true≢false}
+use Rattle.std.proofs.Common.{refl, sym, ap, ap₂, subst, ◌∙◌, arith, append_assoc, append-nil}
 use Rattle.std.proofs.lemmas.Int.{ints}
 use mathlib.Core.HLevel.{Σ_prop_path}
 use lib.Dec.{T_prop}
-use Rattle.coordinate_model.specs.Sums.{Terms, Sum, is_zero, has_no_zero, is_canonical, count_at, coefficient}
+use Rattle.coordinate_model.specs.Sums.{Terms, is_zero, has_no_zero, is_canonical, count_at, coefficient}
 use Rattle.coordinate_model.specs.Key.{Key, key_cmp, HasRisingColumns, IsKey, IsStandardKey}
 use Rattle.coordinate_model.specs.BracketPolynomial.{BracketPolynomial, IsBracketPolynomial, IsNormal}
 use Rattle.coordinate_model.proofs.Bools.{both, first, second, less}

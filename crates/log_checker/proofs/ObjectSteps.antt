@@ -1,6 +1,5 @@
 -- The sections of an object, one after another, as those of its starts.
 use Rattle.std.proofs.Common.{◌≡◌, List, [], ◌∷◌, ℕ, map, refl}
-use Rattle.std.specs.List.{AllByRecursion}
 use Rattle.shuffle_meet.specs.Stops.{Start}
 use Rattle.log_checker.specs.Accepted.{IsAccepted, AreSectionsAccepted}
 use Rattle.log_checker.specs.Claims.{Claim}

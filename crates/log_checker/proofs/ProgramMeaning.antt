@@ -21,21 +21,20 @@ use Rattle.bracket_poly.specs.Tracked.{Tracked, Limit}
 use Rattle.conic_points.specs.Makings.{made_conic}
 use Rattle.cayley_terms.specs.declared.instr.Instr.{Instr}
 use Rattle.cayley_terms.specs.declared.instr.Instr.TheVariants.{Free, Join, Meet, On, Conic}
-use Rattle.cayley_terms.specs.declared.program.Program.{Program}
 use Rattle.cayley_terms.specs.Figures.{Figure, no_figure, scalar}
 use Rattle.cayley_terms.specs.Instrs.{made_behind, instr_measure, instr_figure}
 use Rattle.cayley_terms.specs.Meaning.{Variables}
 use Rattle.cayley_terms.specs.Programs.{EndsInOne, IsInner, IsLast}
-use Rattle.cayley_terms.specs.Starts.{free_value, value_at}
+use Rattle.cayley_terms.specs.Starts.{free_value}
 use Rattle.shuffle_meet.specs.Stops.{Start}
 use Rattle.shuffle_meet.specs.SectionStarts.{is_conclusion, section_starts}
 use Rattle.shuffle_meet.proofs.StartSums.{entries_at}
 use Rattle.log_checker.specs.Claims.{Claim, ended_value}
 use Rattle.log_checker.specs.Objects.{point_of}
-use Rattle.log_checker.specs.Starts.{starts_by, start_made, starts_of}
+use Rattle.log_checker.specs.Starts.{starts_by, start_made}
 use Rattle.log_checker.specs.Accepted.{IsAccepted, IsObjectAccepted, AreAccepted, start_entry, claimed_entry}
 use Rattle.log_checker.specs.SectionLaws.{AcceptedKeepsValue}
-use Rattle.log_checker.specs.ProofLaws.{Concludes, HaveUses, AllHaveUses, AcceptedProofConcludes}
+use Rattle.log_checker.specs.ProofLaws.{HaveUses, AllHaveUses, AcceptedProofConcludes}
 use Rattle.log_checker.proofs.AcceptedObjects.{starts_are, accepted_coordinates, accepted_entries, EndsOne, one_section}
 use Rattle.log_checker.proofs.Instructions.{point_is, last_makes, none_left, object_next, point_next}
 use Rattle.log_checker.proofs.ConicStarts.{conic_same}
@@ -43,7 +42,7 @@ use Rattle.log_checker.proofs.ObjectWork.{Made, measures_of, figures_of, values_
 use Rattle.log_checker.proofs.ObjectWork.{at_scalar}
 use Rattle.log_checker.proofs.ObjectWork.{IsWork, join_work, meet_work, on_work, free_coordinates, free_entry}
 use Rattle.log_checker.proofs.ObjectWork.{made_at, holds_at}
-use Rattle.log_checker.proofs.StartFacts.{IsStart, IsValueOf, starts-are, starts-same, one_start}
+use Rattle.log_checker.proofs.StartFacts.{IsStart, starts-are, starts-same, one_start}
 
 -- ---- what instructions make, alone
 

@@ -1,5 +1,5 @@
 -- A proof is accepted or has one refusal, by its objects and their sections one after another.
-use Rattle.std.proofs.Common.{◌≡◌, ◌⊎◌, inl, inr, ℕ, zero, suc, ◌+◌, List, [], ◌∷◌, ◌++◌, map, zip, length, refl, sym}
+use Rattle.std.proofs.Common.{◌≡◌, ◌⊎◌, inl, inr, ℕ, ◌+◌, List, [], ◌∷◌, ◌++◌, map, zip, length, refl, sym}
 use Rattle.std.proofs.Common.{ap, subst}
 use Rattle.std.proofs.Common.{◌∙◌, arith}
 use Rattle.std.proofs.lemmas.Bool.{cases_eq}
@@ -16,7 +16,7 @@ use Rattle.shuffle_meet.specs.Stops.{Start}
 use Rattle.log_checker.specs.declared.fault.CheckFault.{CheckFault}
 use Rattle.log_checker.specs.declared.refusal.ProofRefusal.{ProofRefusal}
 use Rattle.log_checker.specs.declared.refusal.ProofRefusal.TheVariants as refusal
-use Rattle.log_checker.specs.Accepted.{IsAccepted, IsObjectAccepted, AreAccepted, AreSectionsAccepted, start_entry}
+use Rattle.log_checker.specs.Accepted.{IsAccepted, IsObjectAccepted, AreAccepted, start_entry}
 use Rattle.log_checker.specs.Accepted.{claimed_entry}
 use Rattle.log_checker.specs.Claims.{Claim, ended_value}
 use Rattle.log_checker.specs.Differences.{IsLeastDifference}

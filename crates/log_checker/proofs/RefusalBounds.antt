@@ -1,9 +1,8 @@
 -- The key of a refusal has points and parameters of the program and of the proof alone.
-use Rattle.std.proofs.Common.{◌≡◌, ◌⊎◌, inl, inr, ℕ, zero, suc, ◌+◌, ◌<◌, List, [], ◌∷◌, ◌++◌, zip, length, refl, sym}
-use Rattle.std.proofs.Common.{ap, subst, ◌∙◌}
+use Rattle.std.proofs.Common.{◌≡◌, ◌⊎◌, inl, inr, ℕ, zero, suc, ◌+◌, List, [], ◌∷◌, ◌++◌, zip, length, refl, sym}
+use Rattle.std.proofs.Common.{subst}
 use Rattle.std.specs.Prelude.{Option, Some, None, Result, Ok, Err}
 use Rattle.std.specs.List.{AllByRecursion}
-use Rattle.coordinate_model.specs.Key.{Key}
 use Rattle.coordinate_model.specs.BracketPolynomial.{BracketPolynomial}
 use Rattle.coordinate_model.specs.Starts.{Product, terms_of}
 use Rattle.coordinate_model.specs.SyzygyLaws.{PointsOfMultiple}
@@ -16,7 +15,6 @@ use Rattle.cayley_terms.specs.declared.instr.Instr.TheVariants.{Free, Join, Meet
 use Rattle.cayley_terms.specs.Starts.{free_value, value_at, products_of}
 use Rattle.cayley_terms.specs.Starts as operation
 use Rattle.conic_points.specs.Makings.{made_conic}
-use Rattle.shuffle_meet.specs.SectionStarts.{section_starts}
 use Rattle.shuffle_meet.specs.Stops.{Start}
 use Rattle.log_checker.specs.declared.fault.CheckKind.{CheckKind}
 use Rattle.log_checker.specs.declared.fault.CheckKind.TheVariants.{Coefficient, Keys, Differs, NotStandard}

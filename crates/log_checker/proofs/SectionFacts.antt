@@ -1,10 +1,10 @@
 -- What a section's sum, its end and its refused use come to: it is accepted or has one fault.
-use Rattle.std.proofs.Common.{◌≡◌, ◌≢◌, ◌⊎◌, inl, inr, ℕ, zero, suc, ◌+◌, ◌<◌, ◌≤◌, List, [], ◌∷◌, map, length, refl}
+use Rattle.std.proofs.Common.{◌≡◌, ◌⊎◌, inl, inr, ℕ, List, [], ◌∷◌, map, length, refl}
 use Rattle.std.proofs.Common.{sym, ap, subst, ◌∙◌}
-use Rattle.std.proofs.Common.{arith, Ordering, Less, Equal, Greater, slice_index}
+use Rattle.std.proofs.Common.{Ordering, Less, Equal, Greater}
 use Rattle.std.proofs.lemmas.List.{length-map}
 use Rattle.std.specs.Option.{option_map}
-use Rattle.std.specs.Prelude.{Option, Some, None, MatchOption, ℤ, pos}
+use Rattle.std.specs.Prelude.{Option, Some, None, MatchOption, ℤ}
 use Rattle.std.specs.List.{AllByRecursion}
 use Rattle.std.specs.Ordering.{ordering_reverse}
 use Rattle.coordinate_model.specs.Sequences.{IsRank}
@@ -12,12 +12,11 @@ use Rattle.coordinate_model.specs.Sums.{coefficient}
 use Rattle.coordinate_model.specs.Key.{Key, key_cmp, HasRisingColumns}
 use Rattle.coordinate_model.specs.Polynomial.{Polynomials}
 use Rattle.coordinate_model.specs.Ring.{IsCommRing}
-use Rattle.coordinate_model.specs.BracketPolynomial.{BracketPolynomial, IsBracketPolynomial, IsNormal, add, value}
+use Rattle.coordinate_model.specs.BracketPolynomial.{BracketPolynomial, IsNormal, add, value}
 use Rattle.coordinate_model.specs.NormalLaws.{ValueOfSum}
 use Rattle.coordinate_model.specs.Syzygy.{Use, IsUse, multiple}
 use Rattle.coordinate_model.specs.SyzygyLaws.{ValueOfMultiple}
 use Rattle.coordinate_model.proofs.KeyProducts.{key_total, key_same}
-use Rattle.tableau_order.specs.Standard.{Rises, row_at}
 use Rattle.bracket_terms.specs.LogUses.{use_of}
 use Rattle.bracket_terms.specs.declared.log_use.LogUse.{LogUse}
 use Rattle.bracket_poly.specs.Kept.{TrackedOf}

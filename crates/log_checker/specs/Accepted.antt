@@ -7,7 +7,7 @@ use Rattle.coordinate_model.specs.BracketPolynomial.{BracketPolynomial, IsNormal
 use Rattle.coordinate_model.specs.Syzygy.{Use, multiple, additions}
 use Rattle.bracket_poly.specs.Tracked.{Tracked, Limit, plus_terms, first_limit}
 use Rattle.cayley_terms.specs.declared.instr.Instr.{Instr}
-use Rattle.cayley_terms.specs.declared.instr.Instr.TheVariants.{Free, Join, Meet, On, Conic}
+use Rattle.cayley_terms.specs.declared.instr.Instr.TheVariants.{Free}
 use Rattle.cayley_terms.specs.declared.program.Program.{Program}
 use Rattle.cayley_terms.specs.Starts.{free_value}
 use Rattle.shuffle_meet.specs.Stops.{Start}
