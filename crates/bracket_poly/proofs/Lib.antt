@@ -14,3 +14,4 @@ pub mod ArenaLaws
 mod ArenaRows
 mod ArenaSteps
 mod ArenaCopies
+pub mod ArenaOrder

@@ -6,6 +6,8 @@ mod arena_adding;
 mod arena_finishing;
 mod arena_loading;
 mod arena_poly;
+mod arena_table;
+mod arena_terms;
 mod copying;
 mod error;
 mod held;
@@ -23,6 +25,8 @@ mod value;
 mod view_key;
 
 pub use arena_poly::ArenaPoly;
+pub use arena_table::ArenaTable;
+pub use arena_terms::ArenaTerms;
 pub use bracket_terms::Items;
 pub use error::PolyError;
 pub use held::Held;

@@ -2,11 +2,9 @@
 use Rattle.std.specs.Prelude.{◌≡◌, ℕ, Bool, true, false, cond, ◌||◌, ℤ, pos, List, [], ◌∷◌, ◌++◌, map}
 use Rattle.std.specs.List.{AllByRecursion}
 use Rattle.std.specs.BTreeMap.{is_at}
-use Rattle.std.specs.BTreeSet.{insert_key}
 use Rattle.std.specs.Set.{remove_key}
-use Rattle.std.specs.Cmp.{Equal-is, eq_by_cmp_equiv}
-use Rattle.std.specs.Ordering.{eq_by_cmp, is_eq, match_ordering}
-use Rattle.std.specs.declared.cmp.Ordering.TheVariants.{Less, Equal, Greater}
+use Rattle.std.specs.Cmp.{Equal-is}
+use Rattle.std.specs.Ordering.{eq_by_cmp}
 use Rattle.std.proofs.Common.{refl, sym, ap, subst, ◌∙◌, append_assoc, append-nil}
 use Rattle.coordinate_model.specs.Sums.{Terms, coefficient, is_zero}
 use Rattle.coordinate_model.specs.Key.{Key, key_cmp, IsKey}
@@ -17,45 +15,17 @@ use Rattle.bracket_poly.specs.Kept.{IsTracked}
 use Rattle.bracket_poly.specs.Tracked.{Tracked, has_met, plus_term}
 use Rattle.bracket_poly.proofs.Additions.{item_has}
 use Rattle.bracket_poly.proofs.ArenaLaws.{count_sum}
+use Rattle.bracket_poly.proofs.ArenaOrder.{or_step}
 use Rattle.bracket_poly.proofs.EntryLaws.{all_written}
 use Rattle.bracket_poly.proofs.TrackedLaws.{written_terms}
-use Rattle.straightening.specs.Queues.{IsNonstandard, Covers, TakesIn, with_key, without_key}
+use Rattle.straightening.specs.Queues.{IsNonstandard, Covers, TakesIn, without_key}
 use Rattle.straightening.specs.RunLaws.{HasTerm}
 use Rattle.straightening.proofs.TermLists.{all_have_terms, holds_at, holds_of_term}
 
 abbrev same : Key → Key → Bool
 same = eq_by_cmp key_cmp
 
-or_step : (a b c : Bool) → (a || b) ≡ true → (b ≡ true → c ≡ true) → (a || c) ≡ true
-or_step true b c h f = refl
-or_step false b c h f = f h
-
-or_right : (a b : Bool) → b ≡ true → (a || b) ≡ true
-or_right true b h = refl
-or_right false b h = h
-
-same-itself : (k : Key) → same k k ≡ true
-same-itself k = (eq_by_cmp_equiv key_total).refl k
-
 -- ---- lists of keys
-
--- what is there stays where a key is put in
-pub put_keeps : (ks : List Key) (k q : Key) → has_met ks q ≡ true → has_met (with_key ks k) q ≡ true
-put_keeps [] k q h = cc
-put_keeps (x ∷ xs) k q h = elim (key_cmp k x) as (λ r. has_met (match_ordering r (k ∷ x ∷ xs) (x ∷ xs) (x ∷ insert_key key_cmp xs k)) q ≡ true) [
-  | Less ↦ or_right (same q k) (same q x || has_met xs q) h
-  | Equal ↦ h
-  | Greater ↦ or_step (same q x) (has_met xs q) (has_met (insert_key key_cmp xs k) q) h (put_keeps xs k q)
-]
-
--- and the key is there
-pub put_there : (ks : List Key) (k : Key) → has_met (with_key ks k) k ≡ true
-put_there [] k = ap (λ b. b || false) (same-itself k)
-put_there (x ∷ xs) k = elim (key_cmp k x) as (λ r. key_cmp k x ≡ r → has_met (match_ordering r (k ∷ x ∷ xs) (x ∷ xs) (x ∷ insert_key key_cmp xs k)) k ≡ true) [
-  | Less ↦ λ p. ap (λ b. b || (same k x || has_met xs k)) (same-itself k)
-  | Equal ↦ λ p. ap (λ b. b || has_met xs k) (ap is_eq p)
-  | Greater ↦ λ p. or_right (same k x) (has_met (insert_key key_cmp xs k) k) (put_there xs k)
-] refl
 
 -- another key stays where one is taken out
 pub out_keeps : (ks : List Key) (k q : Key) → (same k q ≡ true → ⊥) → has_met ks q ≡ true → has_met (without_key ks k) q ≡ true

@@ -11,5 +11,5 @@ mod straight;
 mod turn;
 
 pub use queue::Queue;
-pub use run::{straighten, straighten_in};
+pub use run::{straighten, straighten_from, straighten_in};
 pub use straight::{Partial, StopError, Straight};

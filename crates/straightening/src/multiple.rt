@@ -13,7 +13,7 @@ ghost use Rattle.straightening.specs.Queues.{Covers, TakesIn};
 
 use crate::queue::Queue;
 use crate::rows::fill;
-use bracket_poly::{ArenaPoly, PolyError};
+use bracket_poly::{ArenaTable, PolyError};
 use bracket_terms::{Bracket, LogUse, Params};
 use cay_base::NoMemory;
 use std::alloc::Global;
@@ -24,7 +24,7 @@ use tableau_order::is_standard;
 /// The keys that are not standard and had no term go into the queue. The buffer holds the rows of one term.
 pub(crate) fn add_multiple<'a, const D: usize>(
     alloc: Global,
-    poly: &mut ArenaPoly<'a, D>,
+    poly: &mut ArenaTable<'a, D>,
     queue: &mut Queue<'a, D>,
     buffer: &mut Vec<Bracket<D>>,
     log_use: &LogUse<D>,
@@ -49,7 +49,7 @@ pub(crate) fn add_multiple<'a, const D: usize>(
 
 /// Adds one term of the multiple.
 fn add_pair<'a, const D: usize>(
-    poly: &mut ArenaPoly<'a, D>,
+    poly: &mut ArenaTable<'a, D>,
     queue: &mut Queue<'a, D>,
     buffer: &mut Vec<Bracket<D>>,
     log_use: &LogUse<D>,
@@ -70,7 +70,7 @@ fn add_pair<'a, const D: usize>(
 
 /// Adds a term.
 fn add_term<'a, const D: usize>(
-    poly: &mut ArenaPoly<'a, D>,
+    poly: &mut ArenaTable<'a, D>,
     queue: &mut Queue<'a, D>,
     params: &Params,
     rows: &[Bracket<D>],

@@ -10,7 +10,7 @@ ghost use Rattle.straightening.specs.Runs.{run};
 use crate::multiple::add_multiple;
 use crate::straight::{Partial, StopError, Straight};
 use crate::turn::{filled, next_use};
-use bracket_poly::{ArenaPoly, Items, Poly};
+use bracket_poly::{ArenaPoly, ArenaTable, Items, Poly};
 use bumpalo::Bump;
 use std::alloc::Global;
 use term_arena::Store;
@@ -35,9 +35,27 @@ pub fn straighten<const D: usize>(
     ensures bound { IsWithin result budget (length (turnable_keys D poly.entry.tracked.sum)) }
     ensures unchanged { IsNormal D 64 poly.entry.tracked.sum → IfOk result (λ end. IsUnchanged end poly.entry) }
 {
+    straighten_from(alloc, &poly, budget)
+}
+
+/// Makes the turns of `straighten`, and leaves what it begins with as it was.
+pub fn straighten_from<const D: usize>(
+    alloc: Global,
+    poly: &Poly<D>,
+    budget: u64,
+) -> Result<Straight<D>, StopError<D>>
+    requires degree { HasDegree 1000 poly.now.tracked.sum }
+    ensures run { AnswersRun result (run budget poly.now.tracked) }
+    ensures value { IfOk result (λ end. value end.normal.tracked.sum ≡ value poly.now.tracked.sum) }
+    ensures normal { IfOk result (λ end. IsNormal D 64 end.normal.tracked.sum) }
+    ensures only { IfOk result (λ end. IsOnlyNormal D poly.now.tracked.sum end.normal.tracked.sum) }
+    ensures classes { AnswersInClasses result poly.now.tracked.sum }
+    ensures bound { IsWithin result budget (length (turnable_keys D poly.now.tracked.sum)) }
+    ensures unchanged { IsNormal D 64 poly.now.tracked.sum → IfOk result (λ end. IsUnchanged end poly.now) }
+{
     let arena = Bump::new(alloc);
-    let laid = ArenaPoly::load(&poly, &arena)?;
-    match straighten_in(alloc, laid, budget) {
+    let table = ArenaTable::load(poly, &arena)?;
+    match make_turns(alloc, table, budget) {
         Ok((end, _)) => Ok(end),
         Err(error) => Err(error),
     }
@@ -48,6 +66,25 @@ pub fn straighten<const D: usize>(
 pub fn straighten_in<'a, const D: usize>(
     alloc: Global,
     poly: ArenaPoly<'a, D>,
+    budget: u64,
+) -> Result<(Straight<D>, Store<'a, D>), StopError<D>>
+    requires degree { HasDegree 1000 poly.tracked.sum }
+    ensures run { AnswersRun (straight_of result) (run budget poly.entry.tracked) }
+    ensures store { IfOk result (λ end. end.1 ≡ tableaux_of end.0.normal.tracked.met) }
+    ensures value { IfOk result (λ end. value end.0.normal.tracked.sum ≡ value poly.entry.tracked.sum) }
+    ensures normal { IfOk result (λ end. IsNormal D 64 end.0.normal.tracked.sum) }
+    ensures only { IfOk result (λ end. IsOnlyNormal D poly.entry.tracked.sum end.0.normal.tracked.sum) }
+    ensures classes { AnswersInClasses (straight_of result) poly.entry.tracked.sum }
+    ensures bound { IsWithin (straight_of result) budget (length (turnable_keys D poly.entry.tracked.sum)) }
+    ensures unchanged { IsNormal D 64 poly.entry.tracked.sum → IfOk result (λ end. IsUnchanged end.0 poly.entry) }
+{
+    make_turns(alloc, poly.into_table(), budget)
+}
+
+/// Makes the turns over an arena. None asks for the order of the terms.
+fn make_turns<'a, const D: usize>(
+    alloc: Global,
+    poly: ArenaTable<'a, D>,
     budget: u64,
 ) -> Result<(Straight<D>, Store<'a, D>), StopError<D>>
     requires degree { HasDegree 1000 poly.tracked.sum }

@@ -16,7 +16,7 @@ ghost use Rattle.straightening.specs.Turns.{FindsAt, IsUseAt, use_at, turn};
 
 use crate::multiple::take_in;
 use crate::queue::Queue;
-use bracket_poly::{ArenaPoly, Items};
+use bracket_poly::{ArenaTable, Items};
 use bracket_terms::{Bracket, LogUse, Params};
 use cay_base::NoMemory;
 use std::alloc::Global;
@@ -26,7 +26,7 @@ use tableau_order::{Place, violation};
 /// The queue of the met keys that are not standard.
 pub(crate) fn filled<'a, const D: usize>(
     alloc: Global,
-    poly: &ArenaPoly<'a, D>,
+    poly: &ArenaTable<'a, D>,
 ) -> Result<Queue<'a, D>, NoMemory>
     ensures { IfOk result (λ queue. Covers D queue poly.now.tracked.sum) }
 {
@@ -40,7 +40,7 @@ pub(crate) fn filled<'a, const D: usize>(
 /// The use at the greatest key that is not standard. Keys that have no term any more leave the queue.
 pub(crate) fn next_use<'a, const D: usize>(
     alloc: Global,
-    poly: &ArenaPoly<'a, D>,
+    poly: &ArenaTable<'a, D>,
     queue: &mut Queue<'a, D>,
 ) -> Result<Option<LogUse<D>>, NoMemory>
     requires degree { HasDegree 1000 poly.now.tracked.sum }
@@ -59,7 +59,7 @@ pub(crate) fn next_use<'a, const D: usize>(
 /// The use that takes the term of a key of the queue away. A key that has none leaves the queue.
 fn found_at<'a, const D: usize>(
     alloc: Global,
-    poly: &ArenaPoly<'a, D>,
+    poly: &ArenaTable<'a, D>,
     queue: &mut Queue<'a, D>,
     key: &(Params, &'a [Bracket<D>]),
 ) -> Result<Option<LogUse<D>>, NoMemory>
@@ -77,7 +77,7 @@ fn found_at<'a, const D: usize>(
 /// The use that takes the term of the key away, where it has one.
 fn use_in<'a, const D: usize>(
     alloc: Global,
-    poly: &ArenaPoly<'a, D>,
+    poly: &ArenaTable<'a, D>,
     params: &Params,
     rows: &[Bracket<D>],
 ) -> Result<Option<LogUse<D>>, NoMemory>

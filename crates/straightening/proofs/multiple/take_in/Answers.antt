@@ -2,7 +2,7 @@ use Rattle.std.proofs.Common.{◌≡◌, true, List, sym, subst}
 use Rattle.bracket_poly.specs.Arena.{key_of}
 use Rattle.bracket_poly.specs.Tracked.{has_met}
 use Rattle.coordinate_model.specs.Key.{Key}
-use Rattle.straightening.proofs.CoverLaws.{put_keeps, put_there}
+use Rattle.bracket_poly.proofs.ArenaOrder.{put_keeps, put_there}
 use Rattle.straightening.proofs.multiple.take_in.Goals as goal
 
 pub returns : goal.returns
