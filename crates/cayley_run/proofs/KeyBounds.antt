@@ -1,7 +1,7 @@
 -- Bounds of keys: of products, and of keys and uses that have the parameters and the points of others.
 use Rattle.std.proofs.Common.{◌≡◌, ℕ, zero, suc, ◌+◌, ◌-◌, ◌*◌, ◌<◌, ◌≤◌, ◌==◌, Bool, true, false, cond, List, [], ◌∷◌, ◌++◌, length}
 use Rattle.std.proofs.Common.{refl, sym, ap, ap₂, subst, ◌∙◌, arith, flat_map, map, replicate, slice_set, get_or, nat_cmp}
-use Rattle.std.specs.Prelude.{Some, None, Ok, ◌*ℤ◌, slice_get}
+use Rattle.std.specs.Prelude.{Some, None, Ok, ◌*ℤ◌, drop, slice_get, slice_index}
 use Rattle.std.specs.List.{AllByRecursion, cons_option}
 use lib.ListN.{length-append}
 use Rattle.coordinate_model.specs.Sequences.{range, splits, at_places, repeats, sign_of}
@@ -19,10 +19,13 @@ use Rattle.coordinate_model.proofs.Splits.{all_so, all_append, all_map, all_flat
 use Rattle.coordinate_model.proofs.StartKeys.{keys-product}
 use Rattle.step_types.specs.declared.measure.Measure.{Measure}
 use Rattle.straightening.specs.RunLaws.{use_points}
+use Rattle.bracket_poly.specs.Sizes.{KeyWithin}
 use Rattle.bracket_poly.specs.Tracked.{Tracked}
+use Rattle.bracket_poly.proofs.Within.{none_dropped}
 use Rattle.cayley_terms.specs.Instrs.{join_measure, meet_measure, on_measure, conic_measure}
 use Rattle.conic_points.specs.Makings.{made_conic}
-use Rattle.conic_points.proofs.Graded.{ValueHas, conic_has}
+use Rattle.conic_points.specs.Sizes.{IsEntryOf, HaveSizes}
+use Rattle.conic_points.proofs.SizeLaws.{made_doubles}
 use Rattle.cayley_run.specs.Bounds.{ArePoints, AreExponents, IsKeyWithin, IsPolynomialWithin, IsUseWithin}
 
 -- an entry of a value within these bounds
@@ -324,43 +327,77 @@ module _ (n m : ℕ) where
 
 -- ---- six-point polynomials
 
+-- parameters from a number on, by their places and as what is behind
+none_behind : (m : ℕ) (es : List ℕ) → ((i : ℕ) → m ≤ i → slice_index es i ≡ 0) → AllByRecursion (λ x. x ≡ 0) (drop m es)
+none_behind m [] h = none_dropped m
+none_behind zero (e ∷ es) h = (h 0 (omega arith), none_behind zero es (λ i l. h (suc i) (omega arith)))
+none_behind (suc m) (e ∷ es) h = none_behind m es (λ i l. h (suc i) (omega arith))
+
+none_at : (m : ℕ) (es : List ℕ) → AllByRecursion (λ x. x ≡ 0) (drop m es) → (i : ℕ) → m ≤ i → slice_index es i ≡ 0
+none_at m [] h i l = refl
+none_at zero (e ∷ es) h zero l = h.0
+none_at zero (e ∷ es) h (suc i) l = none_at zero es h.1 i (omega arith)
+none_at (suc m) (e ∷ es) h zero l = absurd (omega arith)
+none_at (suc m) (e ∷ es) h (suc i) l = none_at m es h i (omega arith)
+
+module _ (n m : ℕ) (size : Measure) where
+  -- the bounds of a key, in both words
+  to_bounds : (k : Key) → IsKeyWithin n m size k → KeyWithin n m size.rows size.degree k
+  to_bounds k h = record {
+    points_below = h.points;
+    no_others = none_behind m k.exponents h.exponents.parameters;
+    few_rows = h.few;
+    small = h.exponents.small;
+  }
+
+  from_bounds : (rows degree : ℕ) (k : Key) → rows ≤ size.rows → degree ≤ size.degree → KeyWithin n m rows degree k
+      → IsKeyWithin n m size k
+  from_bounds rows degree k r e h = record {
+    points = h.points_below;
+    exponents = record {
+      parameters = none_at m k.exponents h.no_others;
+      small = all_so (λ x. x ≤ degree) (λ x. x ≤ size.degree) (λ x l. omega arith) k.exponents h.small;
+    };
+    few = let f = h.few_rows in omega arith;
+  }
+
+  value_bounds : (v : Value) → AllByRecursion (IsEntryWithin n m size) v
+      → AllByRecursion (IsEntryOf n m (size.rows, size.degree)) v
+  value_bounds [] h = tt
+  value_bounds (e ∷ v) h = (
+    record {
+      points_below = h.0.points;
+      keys =
+          all_so (λ t. IsKeyWithin n m size t.0) (λ t. KeyWithin n m size.rows size.degree t.0)
+          (λ t k. to_bounds t.0 k) e.1.terms h.0.keys;
+    },
+    value_bounds v h.1,
+  )
+
 module _ (n m : ℕ) (m1 m2 m3 m4 m5 m6 : Measure) (v1 v2 v3 v4 v5 v6 : Value)
     (h1 : AllByRecursion (IsEntryWithin n m m1) v1) (h2 : AllByRecursion (IsEntryWithin n m m2) v2)
     (h3 : AllByRecursion (IsEntryWithin n m m3) v3) (h4 : AllByRecursion (IsEntryWithin n m m4) v4)
     (h5 : AllByRecursion (IsEntryWithin n m m5) v5) (h6 : AllByRecursion (IsEntryWithin n m m6) v6) where
-  abbrev Sized : ℕ × ℕ → Value → Type 0
-  Sized =
-      ValueHas (λ rows degree. IsKeyWithin n m (large rows degree)) (λ p. p < n)
-      (λ r e s f. times_within n m (large r e) (large s f)) (no_row n m)
-      (λ ps h. one_row n m (sorted ps) (all_ordered nat_cmp (λ p. p < n) ps h))
+  abbrev size_of : Measure → ℕ × ℕ
+  size_of size = (size.rows, size.degree)
 
-  sized : (size : Measure) (v : Value) → AllByRecursion (IsEntryWithin n m size) v → Sized (size.rows, size.degree) v
-  sized size [] h = tt
-  sized size (e ∷ v) h = (
-    record {
-      points = h.0.points;
-      keys =
-          all_so (λ t. IsKeyWithin n m size t.0) (λ t. IsKeyWithin n m (large size.rows size.degree) t.0)
-          (λ t k. more_within n m size (large size.rows size.degree) t.0 (omega arith) (omega arith) k) e.1.terms h.0.keys;
-    },
-    sized size v h.1,
+  abbrev six_within : HaveSizes n m
+      (size_of m1 ∷ size_of m2 ∷ size_of m3 ∷ size_of m4 ∷ size_of m5 ∷ size_of m6 ∷ []) (v1 ∷ v2 ∷ v3 ∷ v4 ∷ v5 ∷ v6 ∷ [])
+  six_within = (
+    value_bounds n m m1 v1 h1,
+    (
+      value_bounds n m m2 v2 h2,
+      (
+        value_bounds n m m3 v3 h3,
+        (value_bounds n m m4 v4 h4, (value_bounds n m m5 v5 h5, (value_bounds n m m6 v6 h6, tt))),
+      ),
+    ),
   )
 
   pub conic_within : (q : Tracked) → made_conic v1 v2 v3 v4 v5 v6 ≡ Ok q
       → IsPolynomialWithin n m (conic_measure m1 m2 m3 m4 m5 m6) q.sum
   conic_within q e =
-      let all = conic_has (λ rows degree. IsKeyWithin n m (large rows degree)) (λ p. p < n)
-      (λ r e s f. times_within n m (large r e) (large s f)) (no_row n m)
-      (λ ps h. one_row n m (sorted ps) (all_ordered nat_cmp (λ p. p < n) ps h))
-      (m1.rows, m1.degree) (m2.rows, m2.degree) (m3.rows, m3.degree) (m4.rows, m4.degree) (m5.rows, m5.degree)
-      (m6.rows, m6.degree) v1 v2 v3 v4 v5 v6 q e
-      (record {
-        first = sized m1 v1 h1;
-        second = sized m2 v2 h2;
-        third = sized m3 v3 h3;
-        fourth = sized m4 v4 h4;
-        fifth = sized m5 v5 h5;
-        sixth = sized m6 v6 h6;
-      }) in
-      all_so _ (λ t. IsKeyWithin n m (conic_measure m1 m2 m3 m4 m5 m6) t.0)
-      (λ t k. more_within n m _ (conic_measure m1 m2 m3 m4 m5 m6) t.0 (omega arith) (omega arith) k) q.sum.terms all.keys
+      let size : Measure = conic_measure m1 m2 m3 m4 m5 m6 in
+      all_so _ (λ t. IsKeyWithin n m size t.0) (λ t k. from_bounds n m size _ _ t.0 (omega arith) (omega arith) k) q.sum.terms
+      (made_doubles n m (size_of m1) (size_of m2) (size_of m3) (size_of m4) (size_of m5) (size_of m6) v1 v2 v3 v4 v5 v6 q e
+      six_within).keys
