@@ -1,6 +1,5 @@
 pub mod Words
 pub mod Writing
-pub mod Named
 pub mod NumberLaws
 pub mod WordSteps
 pub mod FormSteps
@@ -35,6 +34,5 @@ pub mod PointSteps
 pub mod BehindSteps
 pub mod ReadSteps
 pub mod TakenSteps
-pub mod SoundSteps
 pub mod ProductSteps
 pub mod CountLaws
