@@ -11,7 +11,7 @@ use Rattle.construction_reader.proofs.ObjectLaws.{is_same}
 use Rattle.proof_text.specs.Cut.{Line}
 use Rattle.proof_text.specs.Lines.{spaced}
 use Rattle.proof_text.specs.Forms.{PlainForm, form_line, IsRowOf, IsForm, is_stopped}
-use Rattle.proof_text.specs.Shapes.{form_of, form_by, words_of, spelt_of, signed_of}
+use Rattle.proof_text.specs.Shapes.{form_of, words_of, spelt_of, signed_of}
 use Rattle.proof_text.specs.State.{Place, State, ready, moved, after}
 use Rattle.proof_text.specs.Readings.{is_over, takes_line, takes_ready, takes_form, reads}
 use Rattle.proof_text.proofs.FormAgain.{lacks}
@@ -21,7 +21,7 @@ use Rattle.proof_text.proofs.MoveLaws as move
 
 -- the line of a stop has no form
 stopped_none : (d : ℕ) (line : List ℕ) → is_stopped line ≡ true → form_of d line ≡ None
-unfolding form_of form_by words_of spelt_of signed_of
+unfolding form_of words_of spelt_of signed_of
 stopped_none d line stopped = elim (or_true (line is codes "stopped turns") _ stopped) [
   | inl it ↦ ap (form_of d) (is_same line (codes "stopped turns") it)
   | inr more ↦ elim (or_true (line is codes "stopped coefficient") _ more) [
