@@ -36,3 +36,4 @@ pub mod ReadSteps
 pub mod TakenSteps
 pub mod ProductSteps
 pub mod CountLaws
+pub mod KeyWords
