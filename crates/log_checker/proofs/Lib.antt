@@ -12,3 +12,12 @@ pub mod ObjectSteps
 pub mod ProofDecisions
 pub mod KeyBounds
 pub mod RefusalBounds
+pub mod Operands
+pub mod SixValues
+pub mod Ended
+pub mod Paired
+pub mod Places
+pub mod Ways
+pub mod Courses
+pub mod Readings
+pub mod LastEnds

@@ -1,16 +1,10 @@
 -- The sections of an object, one after another, as those of its starts.
 use Rattle.std.proofs.Common.{◌≡◌, List, [], ◌∷◌, ℕ, map, refl}
 use Rattle.shuffle_meet.specs.Stops.{Start}
-use Rattle.log_checker.specs.Accepted.{IsAccepted, AreSectionsAccepted}
+use Rattle.log_checker.specs.Accepted.{AreSectionsAccepted}
 use Rattle.log_checker.specs.Claims.{Claim}
 use Rattle.log_checker.specs.ProofRefused.{HaveScalars}
-
--- the sections begin with the polynomials of the starts, and are accepted
-abbrev pub AreSame : ℕ → List Start → List Claim → Type 0
-AreSame d [] [] = Unit {0}
-AreSame d [] (c ∷ claims) = ⊥
-AreSame d (start ∷ starts) [] = ⊥
-AreSame d (start ∷ starts) (c ∷ claims) = (start.1.sum ≡ c.start.sum) × IsAccepted d c × AreSame d starts claims
+use Rattle.log_checker.specs.Seen.{AreSame}
 
 same_head : {A : Type 0} (x y : A) (xs ys : List A) → x ∷ xs ≡ y ∷ ys → (x ≡ y) × (xs ≡ ys)
 same_head x y xs ys e = (cc, cc)

@@ -31,7 +31,8 @@ use Rattle.log_checker.proofs.Decisions.{find_difference}
 use Rattle.log_checker.proofs.Instructions.{accepted_next, object_accepted, point_next, point_accepted}
 use Rattle.log_checker.proofs.Instructions.{object_refused, refused_next, refused_none, refused_point, point_refused}
 use Rattle.log_checker.proofs.Instructions.{steps_next, steps_point}
-use Rattle.log_checker.proofs.ObjectSteps.{AreSame, sections_are}
+use Rattle.log_checker.proofs.ObjectSteps.{sections_are}
+use Rattle.log_checker.specs.Seen.{AreSame}
 use Rattle.log_checker.proofs.SectionFacts.{differs_not, one_difference, section_not_both, one_section_fault}
 use Rattle.log_checker.proofs.SectionFacts.{section_either}
 

@@ -8,3 +8,6 @@ pub mod ProofRefused
 pub mod SectionLaws
 pub mod ProofLaws
 pub mod Bounds
+pub mod Checked
+pub mod Ready
+pub mod Seen

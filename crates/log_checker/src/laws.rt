@@ -1,5 +1,6 @@
 //! The laws of the checker. The functions do nothing; their clauses are the laws.
 ghost use Rattle.log_checker.specs.Bounds.{RefusalIsWithin};
+ghost use Rattle.log_checker.specs.Checked.{ReadObjects, ReadClaims};
 ghost use Rattle.log_checker.specs.ProofLaws.{ProofNotBoth, OneRefusal, ProofEither, AcceptedProofConcludes};
 ghost use Rattle.log_checker.specs.SectionLaws.{SectionNotBoth, OneSectionFault, SectionEither, AcceptedKeepsValue};
 
@@ -29,3 +30,9 @@ pub fn proofs()
     sections();
     homogeneous_syzygies();
 }
+
+/// What `read_proof` answers for the steps of a program meets what `check_proof` asks of objects.
+pub fn readings()
+    ensures objects { ReadObjects }
+    ensures claims { ReadClaims }
+{}

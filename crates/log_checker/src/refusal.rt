@@ -2,6 +2,7 @@
 use crate::fault::CheckFault;
 use bracket_poly::Key;
 use cay_base::NoMemory;
+use std::alloc::AllocFailed;
 
 /// Why a proof is not accepted. Objects and sections are counted from 1, the sections over the whole proof.
 #[derive(Drop)]
@@ -32,6 +33,17 @@ impl<const D: usize> From<NoMemory> for ProofRefusal<D> {
     ghost from_gives = { λ _ error. error ≡ Memory };
 
     fn from(_: NoMemory) -> Self {
+        ProofRefusal::Memory
+    }
+}
+
+impl<T: Drop, const D: usize> From<AllocFailed<T>> for ProofRefusal<D> {
+    ghost use Rattle.std.specs.Prelude.{◌≡◌};
+    ghost use Rattle.log_checker.specs.declared.refusal.ProofRefusal.TheVariants.{Memory};
+
+    ghost from_gives = { λ _ error. error ≡ Memory };
+
+    fn from(_: AllocFailed<T>) -> Self {
         ProofRefusal::Memory
     }
 }
