@@ -21,7 +21,7 @@ use Rattle.prover.specs.Runs.{log_of, ends_in_zero}
 use Rattle.prover.specs.Modes.{IsModeAnswer, IsDecision, Decides, longest_input}
 use Rattle.prover.specs.Modes.Sample.{run_status, sample_log}
 use Rattle.prover.specs.Modes.Prove.{verdict, last_status}
-use Rattle.prover.specs.Outcome.{Writes, Written, PutsAnswer, Tells, status_of}
+use Rattle.prover.specs.Outcome.{Writes, IsTold, Written, PutsAnswer, Tells, status_of}
 
 -- ---- the statuses of answers
 
@@ -59,9 +59,12 @@ undecided (mode.Sample number budget) s is e = subst IsUndecided e is
 -- what is put for an answer
 pub writes_put : (a : Answer) (result : Status) (before after : Option (List ℕ)) (m n : ℕ) → IsAnswered a.status
     → Written a result before after m n → Writes a result before after
-writes_put a result before after m n is (inl put) = rw put.0 (writes_all a a.status before after is refl put.1)
-writes_put a result before after m n is (inr (inl (e, front, rose))) = rw e front
-writes_put a result before after m n is (inr (inr (e, front))) = rw e front
+writes_put a result before after m n is written = go written.told
+  where
+    go : IsTold a result before after m n → Writes a result before after
+    go (inl put) = rw put.0 (writes_all a a.status before after is refl put.1)
+    go (inr (inl (e, front, rose))) = rw e front
+    go (inr (inr (e, front))) = rw e front
 
 -- where nothing is put
 pub writes_nothing : (a : Answer) (s : Status) (held : Option (List ℕ)) → (s ≡ ReadFault) ⊎ (s ≡ Memory) → Writes a s held held
@@ -71,18 +74,24 @@ writes_nothing a s held (inr e) = rw e ([], (text_of a.lines, refl), gains_nothi
 -- where an answer is not one of a decision, nor is what the call answers
 pub no_decision : (m : Mode) (a : Answer) (result : Status) (before after : Option (List ℕ)) (i j : ℕ)
     → Written a result before after i j → IsUndecided a.status → IsDecision m result → ⊥
-no_decision m a result before after i j (inl put) is decision = undecided m a.status is (subst (IsDecision m) put.0 decision)
-no_decision m a result before after i j (inr (inl put)) is decision = undecided m WriteFault tt (subst (IsDecision m) put.0 decision)
-no_decision m a result before after i j (inr (inr put)) is decision = undecided m Memory tt (subst (IsDecision m) put.0 decision)
+no_decision m a result before after i j written is decision = go written.told
+  where
+    go : IsTold a result before after i j → ⊥
+    go (inl put) = undecided m a.status is (subst (IsDecision m) put.0 decision)
+    go (inr (inl put)) = undecided m WriteFault tt (subst (IsDecision m) put.0 decision)
+    go (inr (inr put)) = undecided m Memory tt (subst (IsDecision m) put.0 decision)
 
 -- ---- lines and a status
 
 -- the status of what was put
 pub put_written : (a : Answer) (r : Result Status WriteError) (before after : Option (List ℕ)) (m n : ℕ)
     → IfOk r (λ s. s ≡ a.status) → lines.Writes before after m n r a.lines → Written a (status_of r) before after m n
-put_written a (Ok s) before after m n is put = inl (is, put.written)
-put_written a (Err write.Write) before after m n is put = inr (inl (refl, put.front, put.fault refl))
-put_written a (Err write.Memory) before after m n is put = inr (inr (refl, put.front))
+put_written a (Ok s) before after m n is put =
+    record { told = inl (is, put.written); later = put.later; kept = λ other. put.kept (λ e. absurd (cc)) }
+put_written a (Err write.Write) before after m n is put =
+    record { told = inr (inl (refl, put.front, put.fault refl)); later = put.later; kept = λ other. absurd (other refl) }
+put_written a (Err write.Memory) before after m n is put =
+    record { told = inr (inr (refl, put.front)); later = put.later; kept = λ other. put.kept (λ e. absurd (cc)) }
 
 -- ---- lines of a call that answers a status
 
@@ -229,7 +238,6 @@ put_tells m input r before after i j put = record {
   is_answer = put.right;
   decides = decides r put.means;
   written = put_written put.answer r before after i j put.status put.writes;
-  later = put.writes.later;
 }
   where
     decides : (r : Result Status WriteError) → IfOk r (λ s. IsDecision m s → Decides m input put.answer)
@@ -247,5 +255,4 @@ any_input (mode.Sample number budget) input s before after i j unread tells = re
   is_answer = tells.is_answer;
   decides = tells.decides;
   written = tells.written;
-  later = tells.later;
 }

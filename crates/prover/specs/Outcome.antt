@@ -1,5 +1,5 @@
 -- What a call of the program does: it answers, or it tells of a fault after a front of the answer's bytes.
-use Rattle.std.specs.Prelude.{◌≡◌, ◌⊎◌, ◌≤◌, ℕ, List, [], Option, IfSome, Result, Ok, Err, IfOk}
+use Rattle.std.specs.Prelude.{◌≡◌, ◌≢◌, ◌⊎◌, ◌≤◌, ℕ, List, [], Option, IfSome, Result, Ok, Err, IfOk}
 use Rattle.cay_base.specs.Bytes.{Gains, GainsFront}
 use Rattle.cay_base.specs.Causes.{Rose}
 use Rattle.proof_text.specs.Lines.{text_of}
@@ -42,11 +42,17 @@ pub record PutsAnswer (IsRight : Answer → Type 0) (Decided : Status → Type 0
   pub writes : lines.Writes before after faults_before faults_after result answer.lines
 
 -- a call puts an answer's text and answers its status, or a write fault or want of memory after a front of the text
-abbrev pub Written : Answer → Status → Option (List ℕ) → Option (List ℕ) → ℕ → ℕ → Type 0
-Written answer result before after faults_before faults_after =
+abbrev pub IsTold : Answer → Status → Option (List ℕ) → Option (List ℕ) → ℕ → ℕ → Type 0
+IsTold answer result before after faults_before faults_after =
     ((result ≡ answer.status) × Gains before after (text_of answer.lines))
     ⊎ ((result ≡ WriteFault) × GainsFront before after (text_of answer.lines) × Rose faults_before faults_after)
     ⊎ ((result ≡ Memory) × GainsFront before after (text_of answer.lines))
+
+-- and the sink's count of faults does not fall, and stays at every status but a write fault
+pub record Written (answer : Answer) (result : Status) (before after : Option (List ℕ)) (faults_before faults_after : ℕ) : Type 0 where
+  pub told : IsTold answer result before after faults_before faults_after
+  pub later : faults_before ≤ faults_after
+  pub kept : result ≢ WriteFault → faults_after ≡ faults_before
 
 -- a call of a mode on an input that is not too long
 pub record Tells (m : Mode) (input : List ℕ) (result : Status) (before after : Option (List ℕ))
@@ -55,7 +61,6 @@ pub record Tells (m : Mode) (input : List ℕ) (result : Status) (before after :
   pub is_answer : IsModeAnswer m input answer
   pub decides : IsDecision m result → Decides m input answer
   pub written : Written answer result before after faults_before faults_after
-  pub later : faults_before ≤ faults_after
 
 -- ---- a whole call
 

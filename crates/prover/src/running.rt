@@ -1,6 +1,6 @@
 //! The program over any source and sink.
 
-ghost use Rattle.std.specs.Prelude.{◌≡◌, ◌≤◌, ◌⊎◌, [], Some, None, map, string_bytes, codes, IfSome};
+ghost use Rattle.std.specs.Prelude.{◌≡◌, ◌≢◌, ◌≤◌, ◌⊎◌, [], Some, None, map, string_bytes, codes, IfSome};
 ghost use Rattle.cay_base.specs.Causes.{Rose};
 ghost use Rattle.prover.specs.Answer.{usage, refused};
 ghost use Rattle.prover.specs.Modes.{IsMode, IsUsage, IsUnread, IsReadToEnd, HasNumber, longest_input};
@@ -37,6 +37,8 @@ pub fn run<S: Source, K: Sink>(
     ensures read_fault { result ≡ Status.ReadFault
         → Rose (S.faults source.old) (S.faults source.new) × (sink.new ≡ sink.old) }
     ensures write_fault { result ≡ Status.WriteFault → Rose (K.faults sink.old) (K.faults sink.new) }
+    ensures kept { (result ≢ Status.ReadFault → S.faults source.new ≡ S.faults source.old)
+        × (result ≢ Status.WriteFault → K.faults sink.new ≡ K.faults sink.old) }
     ensures later { (S.faults source.old ≤ S.faults source.new) × (K.faults sink.old ≤ K.faults sink.new) }
 {
     match mode_of(words) {
@@ -54,6 +56,8 @@ fn run_mode<S: Source, K: Sink>(alloc: Global, mode: Mode, source: &mut S, sink:
     ensures read_fault { result ≡ Status.ReadFault
         → Rose (S.faults source.old) (S.faults source.new) × (sink.new ≡ sink.old) }
     ensures write_fault { result ≡ Status.WriteFault → Rose (K.faults sink.old) (K.faults sink.new) }
+    ensures kept { (result ≢ Status.ReadFault → S.faults source.new ≡ S.faults source.old)
+        × (result ≢ Status.WriteFault → K.faults sink.new ≡ K.faults sink.old) }
     ensures later { (S.faults source.old ≤ S.faults source.new) × (K.faults sink.old ≤ K.faults sink.new) }
 {
     let Some(longest) = mode.longest_input() else {
@@ -71,7 +75,6 @@ fn run_mode<S: Source, K: Sink>(alloc: Global, mode: Mode, source: &mut S, sink:
 fn refuse_long<K: Sink>(alloc: Global, sink: &mut K) -> Status
     ensures written { Written (refused (codes "long")) result
         (K.held sink.old) (K.held sink.new) (K.faults sink.old) (K.faults sink.new) }
-    ensures later { K.faults sink.old ≤ K.faults sink.new }
 {
     status_of(put_line(alloc, b"refused long", sink).map(|()| Status::TextRefused))
 }
@@ -80,7 +83,6 @@ fn refuse_long<K: Sink>(alloc: Global, sink: &mut K) -> Status
 fn write_usage<K: Sink>(sink: &mut K) -> Status
     ensures written { Written usage result (K.held sink.old) (K.held sink.new) (K.faults sink.old) (K.faults sink.new) }
     ensures status { (result ≡ Status.Usage) ⊎ (result ≡ Status.WriteFault) }
-    ensures later { K.faults sink.old ≤ K.faults sink.new }
 {
     match sink.put(USAGE) {
         Ok(()) => Status::Usage,
