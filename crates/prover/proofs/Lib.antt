@@ -1,4 +1,5 @@
 pub mod WordLists
+pub mod CutLaws
 pub mod Choices
 pub mod ModeLaws
 pub mod AnswerLaws

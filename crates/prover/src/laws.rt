@@ -2,6 +2,7 @@
 
 ghost use Rattle.std.specs.Prelude.{◌≡◌, ℕ, List};
 ghost use Rattle.prover.specs.Answer.{Answer};
+ghost use Rattle.prover.specs.Cuts.{IsSeparator, IsCut};
 ghost use Rattle.prover.specs.Modes.{IsAnswer};
 
 /// Each list of words and each input has one answer.
@@ -9,4 +10,12 @@ pub fn one_answer()
     ensures some { (words : List (List ℕ)) (input : List ℕ) → (answer : Answer) × IsAnswer words input answer }
     ensures unique { (words : List (List ℕ)) (input : List ℕ) (a b : Answer) →
         IsAnswer words input a → IsAnswer words input b → a ≡ b }
+{}
+
+/// Each input has one cut at each separator.
+pub fn one_cut()
+    ensures some { (separator input : List ℕ) → IsSeparator separator
+        → (first : List ℕ) × (rest : List ℕ) × IsCut separator input first rest }
+    ensures unique { (separator input a r b s : List ℕ) → IsSeparator separator
+        → IsCut separator input a r → IsCut separator input b s → (a ≡ b) × (r ≡ s) }
 {}

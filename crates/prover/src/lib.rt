@@ -1,6 +1,7 @@
 //! The top call: all that the program does, over any source and sink of bytes.
 #![tactic(auto)]
 
+mod cut;
 mod ending;
 mod laws;
 mod lines;
@@ -12,6 +13,6 @@ mod running;
 mod status;
 mod words;
 
-pub use laws::one_answer;
+pub use laws::{one_answer, one_cut};
 pub use running::run;
 pub use status::Status;
