@@ -3,7 +3,7 @@ use Rattle.std.proofs.Common.{◌≡◌, ◌≢◌, ℕ, ◌==◌, ◌⊎◌, in
 use Rattle.std.proofs.Common.{map, refl, sym, ap, subst, ◌∙◌, append_assoc, append-nil}
 use Rattle.std.specs.Bool.{Decides}
 use Rattle.std.specs.Str.{bytes_eq}
-use Rattle.std.specs.List.{AllByRecursion}
+use Rattle.std.specs.List.{AllByRecursion, list_any}
 use Rattle.std.proofs.lemmas.Bool.{cases_Bool, eqb-true}
 use Rattle.std.proofs.lemmas.List.{append_cancel_left}
 use Rattle.std.proofs.lemmas.Slice.Eq.{bytes_eq-Decides}
@@ -59,6 +59,15 @@ onto_line b (line ∷ lines) other are = (record { no_feed = (other, are.0.no_fe
 
 differs : (b : ℕ) → (b == 10) ≡ false → b ≢ 10
 differs b other e = let same : (b == 10) ≡ true = rw e refl in true≢false (sym same ∙ other)
+
+-- bytes among which a test finds no LF have none
+pub no_feed_in : (line : List ℕ) → list_any (λ b. b == 10) line ≡ false → HasNoFeed line
+no_feed_in [] none = tt
+no_feed_in (b ∷ line) none =
+    elim (cases_Bool (b == 10)) [
+      | inl is ↦ absurd (true≢false (rw is at none))
+      | inr other ↦ (differs b other, no_feed_in line (rw other at none))
+    ]
 
 are_lines : (bytes : List ℕ) → AreLines (cut bytes)
 unfolding cut

@@ -1,7 +1,12 @@
 pub mod WordLists
 pub mod CutLaws
+pub mod TextNames
 pub mod Choices
 pub mod ModeLaws
+pub mod PartLaws
+pub mod Programs
+pub mod ReadProofs
+pub mod CheckLaws
 pub mod AnswerLaws
 pub mod Inputs
 pub mod Outcomes
@@ -9,3 +14,4 @@ pub mod Calls
 pub mod Verdicts
 pub mod Proofs
 pub mod Samples
+pub mod CheckDecisions

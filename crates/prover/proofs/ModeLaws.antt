@@ -7,7 +7,7 @@ use Rattle.std.proofs.lemmas.Slice.Eq.{bytes_eq-Decides}
 use Rattle.cayley_run.specs.declared.answer.Options.{Options}
 use Rattle.prover.specs.declared.mode.Mode.{Mode}
 use Rattle.prover.specs.declared.mode.Mode.TheVariants as mode
-use Rattle.std.specs.Prelude.{decimal}
+use Rattle.std.specs.Prelude.{decimal, Option, Some, None}
 use Rattle.prover.specs.Words.{IsNumber, NoNumber, GiveOptions, NoOptions}
 use Rattle.prover.specs.Modes.Sample.{sample_options}
 use Rattle.prover.specs.Modes.{IsMode, IsUsage}
@@ -17,13 +17,23 @@ use Rattle.prover.proofs.WordLists.{some_number, one_number}
 abbrev Words : Type 0
 Words = List (List ℕ)
 
+-- a list does not begin with two words
+other_word : (ws rest more : Words) (a b : List ℕ) → bytes_eq a b ≡ false → ws ≡ a ∷ rest → ws ≡ b ∷ more → ⊥
+other_word ws rest more a b differ x y = true≢false (sym ((bytes_eq-Decides a b).1 (head a b rest more (sym x ∙ y))) ∙ differ)
+  where
+    head : (a b : List ℕ) (xs ys : Words) → a ∷ xs ≡ b ∷ ys → a ≡ b
+    head a b xs ys e = cc
+
 pub no_words : (ws : Words) → ws ≡ [] → IsUsage ws
 no_words ws none (mode.Prove options) is = let e = is.front in cc
+no_words ws none mode.Check is = let e = is.front in cc
 no_words ws none (mode.Sample number budget) is = let e = is.front in cc
 
-pub no_mode : (ws rest : Words) (word : List ℕ) → ws ≡ word ∷ rest → word ≢ codes "prove" → word ≢ codes "sample" → IsUsage ws
-no_mode ws rest word front prove sample (mode.Prove options) is = let e = is.front in prove (cc)
-no_mode ws rest word front prove sample (mode.Sample number budget) is = let e = is.front in sample (cc)
+pub no_mode : (ws rest : Words) (word : List ℕ) → ws ≡ word ∷ rest → word ≢ codes "prove" → word ≢ codes "check"
+    → word ≢ codes "sample" → IsUsage ws
+no_mode ws rest word front prove check sample (mode.Prove options) is = let e = is.front in prove (cc)
+no_mode ws rest word front prove check sample mode.Check is = let e = is.front in check (cc)
+no_mode ws rest word front prove check sample (mode.Sample number budget) is = let e = is.front in sample (cc)
 
 -- ---- words behind `prove`
 
@@ -39,7 +49,27 @@ behind_prove ws rest options front is =
 
 pub no_options : (ws rest : Words) → ws ≡ codes "prove" ∷ rest → NoOptions rest → IsUsage ws
 no_options ws rest front none (mode.Prove options) is = none options (behind_prove ws rest options front is)
+no_options ws rest front none mode.Check is = other_word ws rest is.rest (codes "prove") (codes "check") refl front is.front
 no_options ws rest front none (mode.Sample number budget) is = let e = is.front in cc
+
+-- ---- words behind `check`
+
+pub is_check : (ws rest : Words) → ws ≡ codes "check" ∷ rest → rest ≡ [] → IsMode ws mode.Check
+is_check ws rest front alone = record { rest = rest; front = front; options = alone; number = tt }
+
+pub not_alone : (ws rest : Words) → ws ≡ codes "check" ∷ rest → rest ≢ [] → IsUsage ws
+not_alone ws rest front more (mode.Prove options) is =
+    other_word ws rest is.rest (codes "check") (codes "prove") refl front is.front
+not_alone ws rest front more mode.Check is =
+    let e = is.front in
+    let same : is.rest ≡ rest = cc in more (sym same ∙ is.options)
+not_alone ws rest front more (mode.Sample number budget) is =
+    other_word ws rest (decimal number ∷ is.rest) (codes "check") (codes "sample") refl front is.front
+
+pub match_check : (ws rest : Words) (named : Option Mode) → ws ≡ codes "check" ∷ rest
+    → MatchOption named (rest ≢ []) (λ m. (m ≡ mode.Check) × (rest ≡ [])) → MatchOption named (IsUsage ws) (IsMode ws)
+match_check ws rest None front more = not_alone ws rest front more
+match_check ws rest (Some m) front alone = subst (IsMode ws) (sym alone.0) (is_check ws rest front alone.1)
 
 -- ---- words behind `sample`
 
@@ -75,6 +105,8 @@ behind_sample ws more number budget front is =
 -- no sample is named by what is behind the mode's word
 no_sample : (ws more : Words) → ws ≡ codes "sample" ∷ more → ((number budget : ℕ) → Behind more number budget → ⊥) → IsUsage ws
 no_sample ws more front none (mode.Prove options) is = let e = is.front in cc
+no_sample ws more front none mode.Check is =
+    other_word ws more is.rest (codes "sample") (codes "check") refl front is.front
 no_sample ws more front none (mode.Sample number budget) is = none number budget (behind_sample ws more number budget front is)
 
 pub sample_alone : (ws : Words) → ws ≡ codes "sample" ∷ [] → IsUsage ws
@@ -111,6 +143,15 @@ module _ (ws rest : Words) (word : List ℕ) (front : ws ≡ codes "sample" ∷ 
 pub one_mode : (ws : Words) (a b : Mode) → IsMode ws a → IsMode ws b → a ≡ b
 one_mode ws (mode.Prove a) (mode.Prove b) is also =
     ap mode.Prove (one_give is.rest a b is.options (behind_prove ws is.rest b is.front also))
+one_mode ws (mode.Prove a) mode.Check is also =
+    absurd (other_word ws is.rest also.rest (codes "prove") (codes "check") refl is.front also.front)
+one_mode ws mode.Check (mode.Prove b) is also =
+    absurd (other_word ws is.rest also.rest (codes "check") (codes "prove") refl is.front also.front)
+one_mode ws mode.Check mode.Check is also = refl
+one_mode ws mode.Check (mode.Sample m y) is also =
+    absurd (other_word ws is.rest (decimal m ∷ also.rest) (codes "check") (codes "sample") refl is.front also.front)
+one_mode ws (mode.Sample n x) mode.Check is also =
+    absurd (other_word ws (decimal n ∷ is.rest) also.rest (codes "sample") (codes "check") refl is.front also.front)
 one_mode ws (mode.Prove a) (mode.Sample m y) is also = let e = is.front in let w = also.front in absurd cc
 one_mode ws (mode.Sample n x) (mode.Prove b) is also = let e = is.front in let w = also.front in absurd cc
 one_mode ws (mode.Sample n x) (mode.Sample m y) is also =
@@ -128,6 +169,10 @@ Named ws = ((m : Mode) × IsMode ws m) ⊎ IsUsage ws
 some_prove : (rest : Words) → ((options : Options) × GiveOptions rest options) ⊎ NoOptions rest → Named (codes "prove" ∷ rest)
 some_prove rest (inl w) = inl (mode.Prove w.0, is_prove (codes "prove" ∷ rest) rest w.0 refl w.1)
 some_prove rest (inr none) = inr (no_options (codes "prove" ∷ rest) rest refl none)
+
+some_check : (rest : Words) → Named (codes "check" ∷ rest)
+some_check [] = inl (mode.Check, is_check (codes "check" ∷ []) [] refl refl)
+some_check (word ∷ rest) = inr (not_alone (codes "check" ∷ word ∷ rest) (word ∷ rest) refl (λ e. cc))
 
 some_sample : (rest : Words) → Named (codes "sample" ∷ rest)
 some_sample [] = inr (sample_alone (codes "sample" ∷ []) refl)
@@ -148,11 +193,14 @@ some_sample (word ∷ rest) = go (some_number 12 word (lit< tt)) (some_give rest
 pub some_mode : (ws : Words) → Named ws
 some_mode [] = inr (no_words [] refl)
 some_mode (word ∷ rest) =
-    go (bytes_eq word (codes "prove")) (bytes_eq word (codes "sample")) (bytes_eq-Decides word (codes "prove"))
-    (bytes_eq-Decides word (codes "sample"))
+    go (bytes_eq word (codes "prove")) (bytes_eq word (codes "check")) (bytes_eq word (codes "sample"))
+    (bytes_eq-Decides word (codes "prove")) (bytes_eq-Decides word (codes "check")) (bytes_eq-Decides word (codes "sample"))
   where
-    go : (a b : Bool) → Decides a (word ≡ codes "prove") → Decides b (word ≡ codes "sample") → Named (word ∷ rest)
-    go true b prove sample = rw (prove.0 refl) (some_prove rest (some_give rest))
-    go false true prove sample = rw (sample.0 refl) (some_sample rest)
-    go false false prove sample =
-        inr (no_mode (word ∷ rest) rest word refl (λ e. true≢false (sym (prove.1 e))) (λ e. true≢false (sym (sample.1 e))))
+    go : (a b c : Bool) → Decides a (word ≡ codes "prove") → Decides b (word ≡ codes "check")
+        → Decides c (word ≡ codes "sample") → Named (word ∷ rest)
+    go true b c prove check sample = rw (prove.0 refl) (some_prove rest (some_give rest))
+    go false true c prove check sample = rw (check.0 refl) (some_check rest)
+    go false false true prove check sample = rw (sample.0 refl) (some_sample rest)
+    go false false false prove check sample =
+        inr (no_mode (word ∷ rest) rest word refl (λ e. true≢false (sym (prove.1 e))) (λ e. true≢false (sym (check.1 e)))
+        (λ e. true≢false (sym (sample.1 e))))

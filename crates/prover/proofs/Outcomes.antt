@@ -13,12 +13,15 @@ use Rattle.prover.specs.declared.mode.Mode.{Mode}
 use Rattle.prover.specs.declared.mode.Mode.TheVariants as mode
 use Rattle.prover.specs.declared.status.Status.{Status}
 use Rattle.prover.specs.declared.status.Status.TheVariants.{Proved, Done, Refuted, Usage, TextRefused, Stopped}
-use Rattle.prover.specs.declared.status.Status.TheVariants.{ReadFault, WriteFault, Memory}
+use Rattle.prover.specs.declared.status.Status.TheVariants.{ReadFault, WriteFault, Memory, ProofRefused}
 use Rattle.prover.specs.Answer.{Answer}
 use Rattle.straightening.specs.Runs.{Stop}
 use Rattle.bracket_poly.specs.Sections.{Worked}
 use Rattle.prover.specs.Runs.{log_of, ends_in_zero}
 use Rattle.prover.specs.Modes.{IsModeAnswer, IsDecision, Decides, longest_input}
+use Rattle.construction_reader.specs.Said.{Account}
+use Rattle.proof_text.specs.Told.{Told}
+use Rattle.prover.specs.Modes.Check.{IsTextAnswer, IsBytesAnswer, IsToldAnswer}
 use Rattle.prover.specs.Modes.Sample.{run_status, sample_log}
 use Rattle.prover.specs.Modes.Prove.{verdict, last_status}
 use Rattle.prover.specs.Outcome.{Writes, IsTold, Written, PutsAnswer, Tells, status_of}
@@ -40,6 +43,7 @@ writes_all a Refuted before after is e gains = (e, gains)
 writes_all a Usage before after is e gains = (e, gains)
 writes_all a TextRefused before after is e gains = (e, gains)
 writes_all a Stopped before after is e gains = (e, gains)
+writes_all a ProofRefused before after is e gains = (e, gains)
 writes_all a ReadFault before after is e gains = absurd is
 writes_all a WriteFault before after is e gains = absurd is
 writes_all a Memory before after is e gains = absurd is
@@ -54,6 +58,8 @@ IsUndecided status = Unit {0}
 pub undecided : (m : Mode) (s : Status) → IsUndecided s → IsDecision m s → ⊥
 undecided (mode.Prove options) s is (inl e) = subst IsUndecided e is
 undecided (mode.Prove options) s is (inr e) = subst IsUndecided e is
+undecided mode.Check s is (inl e) = subst IsUndecided e is
+undecided mode.Check s is (inr e) = subst IsUndecided e is
 undecided (mode.Sample number budget) s is e = subst IsUndecided e is
 
 -- what is put for an answer
@@ -221,10 +227,24 @@ run_answered : (stop : Option Stop) → IsAnswered (run_status stop)
 run_answered (Some stop) = tt
 run_answered None = tt
 
+told_answered : (c : Account) (p : Told) (a : Answer) → IsToldAnswer c p a → IsAnswered a.status
+told_answered c p a (inl (good, e)) = rw e (verdict_answered p.proved)
+told_answered c p a (inr (r, bad, e)) = rw e tt
+
+bytes_answered : (bytes : List ℕ) (c : Account) (a : Answer) → IsBytesAnswer bytes c a → IsAnswered a.status
+bytes_answered bytes c a (inl (fault, is, e)) = rw e tt
+bytes_answered bytes c a (inr (p, is, told)) = told_answered c p a told
+
+text_answered : (text bytes : List ℕ) (a : Answer) → IsTextAnswer text bytes a → IsAnswered a.status
+text_answered text bytes a (inl (long, e)) = rw e tt
+text_answered text bytes a (inr (short, inl (f, is, e))) = rw e tt
+text_answered text bytes a (inr (short, inr (c, gives, is))) = bytes_answered bytes c a is
+
 pub mode_answered : (m : Mode) (input : List ℕ) (a : Answer) → IsModeAnswer m input a → IsAnswered a.status
 mode_answered (mode.Prove options) input a (inl (f, is, e)) = rw e tt
 mode_answered (mode.Prove options) input a (inr (c, gives, e)) =
     rw e (proof_answered (log_of options c).objects (log_of options c).stop)
+mode_answered mode.Check input a is = text_answered is.text is.bytes a is.answers
 mode_answered (mode.Sample number budget) input a e = rw e (run_answered (sample_log number budget).stop)
 
 -- ---- calls of modes
@@ -250,9 +270,51 @@ put_tells m input r before after i j put = record {
 pub any_input : (m : Mode) (input : List ℕ) (s : Status) (before after : Option (List ℕ)) (i j : ℕ) → longest_input m ≡ None
     → Tells m [] s before after i j → Tells m input s before after i j
 any_input (mode.Prove options) input s before after i j unread tells = absurd cc
+any_input mode.Check input s before after i j unread tells = absurd cc
 any_input (mode.Sample number budget) input s before after i j unread tells = record {
   answer = tells.answer;
   is_answer = tells.is_answer;
   decides = tells.decides;
   written = tells.written;
 }
+
+-- ---- answers that are put
+
+-- what is so of another answer, or means something else
+pub puts_as : (P Q M N : Answer → Type 0) (V : Status → Type 0) (r : Result Status WriteError) (before after : Option (List ℕ))
+    (i j : ℕ) → ((a : Answer) → P a → Q a) → ((a : Answer) → M a → N a) → PutsAnswer P V M r before after i j
+    → PutsAnswer Q V N r before after i j
+puts_as P Q M N V r before after i j right means put = record {
+  answer = put.answer;
+  right = right put.answer put.right;
+  status = put.status;
+  means = means_so r put.means;
+  writes = put.writes;
+}
+  where
+    means_so : (r : Result Status WriteError) → IfOk r (λ s. V s → M put.answer) → IfOk r (λ s. V s → N put.answer)
+    means_so (Ok s) m = λ v. means put.answer (m v)
+    means_so (Err e) m = tt
+
+module _ (P M : Answer → Type 0) (V : Status → Type 0) where
+  -- an answer that decides nothing
+  pub puts_undecided : (a : Answer) (r : Result Status WriteError) (before after : Option (List ℕ)) (i j : ℕ) → P a
+      → (V a.status → ⊥) → IfOk r (λ s. s ≡ a.status) → lines.Writes before after i j r a.lines
+      → PutsAnswer P V M r before after i j
+  puts_undecided a r before after i j right open_end status put =
+      record { answer = a; right = right; status = status; means = means_so r status; writes = put }
+    where
+      means_so : (r : Result Status WriteError) → IfOk r (λ s. s ≡ a.status) → IfOk r (λ s. V s → M a)
+      means_so (Ok s) e = λ v. absurd (open_end (subst V e v))
+      means_so (Err e) is = tt
+
+  -- where there is no memory, nothing is put of any answer
+  pub puts_nothing : (some : (a : Answer) × P a) (r : Result Status WriteError) (held : Option (List ℕ)) (m : ℕ)
+      → IsErrAnd r (λ e. e ≡ write.Memory) → PutsAnswer P V M r held held m m
+  puts_nothing some r held m is = record {
+    answer = some.0;
+    right = some.1;
+    status = at_error (λ (s : Status). s ≡ some.0.status) (λ (e : WriteError). e ≡ write.Memory) r is;
+    means = at_error (λ (s : Status). V s → M some.0) (λ (e : WriteError). e ≡ write.Memory) r is;
+    writes = puts_none held m r some.0.lines is;
+  }

@@ -34,7 +34,7 @@ use Rattle.prover.specs.Runs.{last_of, end_in, last_end, is_zero, ends_in_zero}
 
 -- ---- the last item
 
-last_of-push : {A : Type 0} (xs : List A) (x : A) → last_of (xs ++ x ∷ []) ≡ Some x
+pub last_of-push : {A : Type 0} (xs : List A) (x : A) → last_of (xs ++ x ∷ []) ≡ Some x
 last_of-push xs x =
     let one : length (xs ++ x ∷ []) - 1 ≡ length xs = omega (arith, length-append xs (x ∷ [])) in
     let within : length xs < length (xs ++ x ∷ []) = omega (arith, length-append xs (x ∷ [])) in
@@ -114,23 +114,23 @@ tested : (b : Bool) → verdict b ≡ Proved → b ≡ true
 tested true e = refl
 tested false e = absurd cc
 
-is_proved : (ts : Terms Key) → verdict (length ts == 0) ≡ Proved → ts ≡ []
+pub is_proved : (ts : Terms Key) → verdict (length ts == 0) ≡ Proved → ts ≡ []
 is_proved ts e = none_left ts ((Decides-eqb (length ts) 0).0 (tested (length ts == 0) e))
 
 not_tested : (b : Bool) → verdict b ≡ Refuted → b ≡ true → ⊥
 not_tested true e is = cc
 not_tested false e is = cc
 
-not_refuted : (ts : Terms Key) → verdict (length ts == 0) ≡ Refuted → ts ≡ [] → ⊥
+pub not_refuted : (ts : Terms Key) → verdict (length ts == 0) ≡ Refuted → ts ≡ [] → ⊥
 not_refuted ts e none =
     let zero : length ts ≡ 0 = ap (λ (xs : Terms Key). length xs) none in
     not_tested (length ts == 0) e ((Decides-eqb (length ts) 0).1 zero)
 
-zero_value : (f : BracketPolynomial) → f.terms ≡ [] → value f ≡ Polynomials.𝟘
+pub zero_value : (f : BracketPolynomial) → f.terms ≡ [] → value f ≡ Polynomials.𝟘
 unfolding value
 zero_value f none = ap (sum_value Polynomials key_value) none
 
-no_terms : (d : ℕ) (f : BracketPolynomial) → IsRank d → IsNormal d 64 f → value f ≡ Polynomials.𝟘 → f.terms ≡ []
+pub no_terms : (d : ℕ) (f : BracketPolynomial) → IsRank d → IsNormal d 64 f → value f ≡ Polynomials.𝟘 → f.terms ≡ []
 no_terms d f rank normal zero =
     ap (λ (g : BracketPolynomial). g.terms)
     (same_normal d 64 rank f KeySums.𝟘 normal tt (zero ∙ sym (zero_value KeySums.𝟘 refl)))

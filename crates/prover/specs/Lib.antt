@@ -4,5 +4,7 @@ pub mod Words
 pub mod Cuts
 pub mod Parts
 pub mod Runs
+pub mod Checked
+pub mod Refusals
 pub mod Modes
 pub mod Outcome

@@ -2,6 +2,7 @@
 use Rattle.std.specs.Prelude.{ℕ, ◌-◌, ◌==◌, Bool, false, List, length, map, zip, slice_get, Option, Some, None}
 use Rattle.coordinate_model.specs.BracketPolynomial.{BracketPolynomial}
 use Rattle.construction_reader.specs.Said.{Account}
+use Rattle.cayley_terms.specs.declared.instr.Instr.{Instr}
 use Rattle.cayley_terms.specs.Instrs.{measures}
 use Rattle.cayley_terms.specs.Straight.{lowered}
 use Rattle.bracket_poly.specs.Sections.{Rewritten, Worked}
@@ -12,11 +13,14 @@ use Rattle.cayley_run.specs.Runs.{Log, at_start, run_on}
 use Rattle.proof_text.specs.declared.stop.Stop.{Stop}
 use Rattle.proof_text.specs.declared.stop.Stop.TheVariants as stop
 
+-- the instructions of a construction, each with the step of what it makes
+abbrev pub instructions : Account → List (Instr × ℕ)
+instructions c =
+    let instrs = (lowered c).instrs in zip instrs (map (λ m. m.step) (measures c.rank instrs))
+
 -- the run of a construction
 abbrev pub log_of : Options → Account → Log
-log_of options c =
-    let instrs = (lowered c).instrs in
-    run_on c.rank (at_start options) (zip instrs (map (λ m. m.step) (measures c.rank instrs)))
+log_of options c = run_on c.rank (at_start options) (instructions c)
 
 -- the last one
 abbrev pub last_of : {A : Type 0} → List A → Option A

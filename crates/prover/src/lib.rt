@@ -9,8 +9,10 @@ mod mode;
 mod modes;
 mod nowhere;
 mod parts;
+mod refusals;
 mod running;
 mod status;
+mod steps;
 mod words;
 
 pub use laws::{one_answer, one_cut};

@@ -10,6 +10,8 @@ use cayley_run::Options;
 pub enum Mode {
     /// To prove or refute the conclusion of a text, and to write the whole proof.
     Prove(Options),
+    /// To check the proof behind a text.
+    Check,
     /// To run the sample construction of this number with so many turns, and to tell what the run came to.
     Sample { number: u32, budget: u64 },
 }
@@ -21,6 +23,7 @@ impl Mode {
     {
         match self {
             Mode::Prove(_) => Some(1_048_576),
+            Mode::Check => Some(1_073_741_824),
             Mode::Sample { .. } => None,
         }
     }

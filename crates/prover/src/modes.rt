@@ -3,6 +3,7 @@
 ghost use Rattle.prover.specs.Modes.{IsShort, HasNumber};
 ghost use Rattle.prover.specs.Outcome.{Tells};
 
+mod check;
 mod prove;
 mod sample;
 
@@ -19,6 +20,7 @@ pub fn tell<K: Sink>(alloc: Global, mode: Mode, input: &[u8], sink: &mut K) -> S
 {
     match mode {
         Mode::Prove(options) => prove::prove(alloc, options, input, sink),
+        Mode::Check => check::check(alloc, input, sink),
         Mode::Sample { number, budget } => sample::sample(alloc, number, budget, input, sink),
     }
 }

@@ -1,10 +1,12 @@
 //! Parts of the input that are construction texts.
 
-ghost use Rattle.std.specs.Prelude.{◌≡◌, ◌≤◌, ◌∷◌, [], length, string_bytes, IfOk};
+ghost use Rattle.std.specs.Prelude.{◌≡◌, ◌≤◌, ◌∷◌, [], length, codes, string_bytes, IfOk};
 ghost use Rattle.proof_text.specs.Writes.{Writes};
+ghost use Rattle.prover.specs.Answer.{refused};
 ghost use Rattle.prover.specs.Parts.{kind_word, step_word, line_of, word_of, refused_at, IsPartOf};
 
 use crate::lines::put_line;
+use crate::status::Status;
 use cay_base::{NoMemory, Sink};
 use construction_reader::{Kind, ReadTextError, TextFault, read};
 use proof_text::WriteError;
@@ -66,6 +68,16 @@ pub fn read_part(alloc: Global, text: &[u8]) -> Result<Part, NoMemory>
         Err(CheckError::Fault(fault)) => Ok(Part::Faulty(Fault::Step(fault))),
         Err(CheckError::Memory) => Err(NoMemory),
     }
+}
+
+/// Puts the line of an input or a text that is too long.
+pub fn put_long<K: Sink>(alloc: Global, sink: &mut K) -> Result<Status, WriteError>
+    ensures status { IfOk result (λ status. status ≡ Status.TextRefused) }
+    ensures written { Writes (K.held sink.old) (K.held sink.new) (K.faults sink.old) (K.faults sink.new)
+        result (refused (codes "long")).lines }
+{
+    put_line(alloc, b"refused long", sink)?;
+    Ok(Status::TextRefused)
 }
 
 /// Puts the line of a text that is refused for this fault, which is told behind the prefix.

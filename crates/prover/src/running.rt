@@ -7,9 +7,9 @@ ghost use Rattle.prover.specs.Modes.{IsMode, IsUsage, IsUnread, IsReadToEnd, Has
 ghost use Rattle.prover.specs.Outcome.{Answers, ModeAnswers, Written};
 
 use crate::ending::status_of;
-use crate::lines::put_line;
 use crate::mode::Mode;
 use crate::modes::tell;
+use crate::parts::put_long;
 use crate::status::Status;
 use crate::words::mode_of;
 use cay_base::{ReadError, Sink, Source, read_all};
@@ -76,7 +76,7 @@ fn refuse_long<K: Sink>(alloc: Global, sink: &mut K) -> Status
     ensures written { Written (refused (codes "long")) result
         (K.held sink.old) (K.held sink.new) (K.faults sink.old) (K.faults sink.new) }
 {
-    status_of(put_line(alloc, b"refused long", sink).map(|()| Status::TextRefused))
+    status_of(put_long(alloc, sink))
 }
 
 /// Writes the usage line.

@@ -23,6 +23,8 @@ pub enum Status {
     WriteFault,
     /// Memory was wanting.
     Memory,
+    /// The text is taken, and the proof behind it is not accepted.
+    ProofRefused,
 }
 
 impl Status {
@@ -42,6 +44,7 @@ impl Status {
             Status::ReadFault => 5,
             Status::WriteFault => 6,
             Status::Memory => 7,
+            Status::ProofRefused => 8,
         }
     }
 }

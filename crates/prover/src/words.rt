@@ -1,6 +1,7 @@
 //! The words behind the program's name.
 
-ghost use Rattle.std.specs.Prelude.{◌≡◌, ◌∷◌, true, false, codes, map, string_bytes, IsSome, MatchOption, Some, None};
+ghost use Rattle.std.specs.Prelude.{◌≡◌, ◌≢◌, ◌∷◌, [], true, false, codes, map, string_bytes};
+ghost use Rattle.std.specs.Prelude.{IsSome, MatchOption, Some, None};
 ghost use Rattle.prover.specs.Modes.{IsMode, IsUsage};
 ghost use Rattle.prover.specs.Words.{AddsChoices, AddsNone, GiveOptions, NoOptions, IsNumber, NoNumber};
 
@@ -25,9 +26,18 @@ pub fn mode_of(words: &[String]) -> Option<Mode>
     };
     match mode.as_str() {
         "prove" => Some(Mode::Prove(options(rest)?)),
+        "check" => alone(Mode::Check, rest),
         "sample" => sample(rest),
         _ => None,
     }
+}
+
+/// A mode without options, where no word is left.
+fn alone(mode: Mode, words: &[String]) -> Option<Mode>
+    ensures { MatchOption result (map string_bytes words.now ≢ [])
+        (λ named. (named ≡ mode) × (map string_bytes words.now ≡ [])) }
+{
+    if words.is_empty() { Some(mode) } else { None }
 }
 
 /// The sample that these words behind the mode's own name.

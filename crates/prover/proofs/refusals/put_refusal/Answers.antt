@@ -1,0 +1,5 @@
+use Rattle.prover.proofs.Outcomes.{puts_none}
+use Rattle.prover.proofs.refusals.put_refusal.Goals as goal
+
+pub returns-in_err-line-clause-written : goal.returns-in_err-line-clause-written
+returns-in_err-line-clause-written g c = puts_none _ _ _ _ c.from_residual.ensures.1
