@@ -1,5 +1,6 @@
 -- What the mode that checks puts, and what its verdict decides.
-use Rattle.std.proofs.Common.{◌≡◌, ℕ, ◌==◌, ◌⊎◌, inl, inr, List, [], ◌∷◌, ◌++◌, zip, length, Option, Result, Ok, Err, IfOk, IfErr}
+use Rattle.std.proofs.Common.{◌≡◌, ℕ, ◌==◌, ◌⊎◌, inl, inr, List, [], ◌∷◌, ◌++◌, zip, length, Option}
+use Rattle.std.proofs.Common.{Result, Ok, Err, IfOk}
 use Rattle.std.proofs.Common.{refl, sym, ap, subst, ◌∙◌}
 use Rattle.std.specs.List.{AllByRecursion}
 use Rattle.coordinate_model.specs.BracketPolynomial.{BracketPolynomial, IsNormal, value}
@@ -46,7 +47,8 @@ use Rattle.prover.proofs.Verdicts.{is_proved, not_refuted, zero_value, no_terms}
 
 -- what is so for names and steps of the code is so for those of the construction
 pub for_construction : (c : Account) (p : Program) → IsStraight c p → p.rank ≡ c.rank
-    → (P : Names → List ℕ → Type 0) (names : Names) (steps : List ℕ) → names ≡ names_of c → steps ≡ program_steps p → P names steps → P (names_of c) (steps_of c)
+    → (P : Names → List ℕ → Type 0) (names : Names) (steps : List ℕ) → names ≡ names_of c → steps ≡ program_steps p
+    → P names steps → P (names_of c) (steps_of c)
 for_construction c p straight rank P names steps named stepped is =
     subst (P (names_of c)) (stepped ∙ ap object_steps (same_instructions c p straight rank))
     (subst (λ (n : Names). P n steps) named is)
@@ -65,7 +67,8 @@ module _ (c : Account) (p : Program) (straight : IsStraight c p) (rank : p.rank 
       (subst (λ n. (r : ProofRefusal n) → AreRefused [] (instructions c) (claims_read told) 1 1 r
       → a ≡ proof_refused (refusal_line (names_of c) r) → IsToldAnswer c told a) same
       (λ (q : ProofRefusal c.rank) bad e. inr (q, bad, e))) r
-      (subst (λ (xs : List (Instr × ℕ)). AreRefused [] xs (claims_read told) 1 1 r) (same_instructions c p straight rank) bad)
+      (subst (λ (xs : List (Instr × ℕ)). AreRefused [] xs (claims_read told) 1 1 r) (same_instructions c p straight rank)
+      bad)
       e
 
   told_answer : (d : ℕ) (names : Names) (a : Answer) → c.rank ≡ d → names ≡ names_of c
@@ -150,7 +153,8 @@ module _ (d : ℕ) (names : Names) (p : Program) (told : Told) (claims : List (L
   refusal_put q r before after i j other bad status put =
       puts_undecided (IsProgramAnswer d names p told) (ProgramDecides p told) IsVerdict
       (proof_refused (refusal_line names q)) r before after i j
-      (inr (q, subst (λ (cs : List (List Claim)). IsProofRefused p cs q) same (told_so q other bad), refl)) no_verdict status put
+      (inr (q, subst (λ (cs : List (List Claim)). IsProofRefused p cs q) same (told_so q other bad), refl)) no_verdict
+      status put
     where
       told_so : (q : ProofRefusal d) → (q ≡ refusal.Memory → ⊥) → UnlessMemory (IsProofRefused p claims) q
           → IsProofRefused p claims q

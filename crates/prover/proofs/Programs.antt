@@ -1,5 +1,6 @@
 -- The program of a good construction, and the steps of the objects of a program.
-use Rattle.std.proofs.Common.{◌≡◌, ℕ, suc, ◌+◌, ◌-◌, ◌<◌, ◌≤◌, List, [], ◌∷◌, ◌++◌, map, zip, length, drop, get_or, append_assoc, append-nil}
+use Rattle.std.proofs.Common.{◌≡◌, ℕ, suc, ◌+◌, ◌-◌, ◌<◌, ◌≤◌, List, [], ◌∷◌, ◌++◌, map, zip, length, drop}
+use Rattle.std.proofs.Common.{get_or, append_assoc, append-nil}
 use Rattle.std.proofs.Common.{refl, sym, ap, subst, ◌∙◌, arith}
 use Rattle.std.specs.Prelude.{sum_by}
 use Rattle.std.specs.List.{AllByRecursion}
@@ -61,7 +62,8 @@ few_pairs (x ∷ xs) (y ∷ ys) = let few = few_pairs xs ys in omega arith
 
 -- ---- the instructions of a program
 
-last_step : (d : ℕ) (before : List Measure) (instr : Instr) → IsLast d before instr → (instr_measure d before instr).step ≤ d
+last_step : (d : ℕ) (before : List Measure) (instr : Instr) → IsLast d before instr
+    → (instr_measure d before instr).step ≤ d
 last_step d before (Free i) last = absurd last.steps
 last_step d before (Join a b) last = let steps = last.steps in omega arith
 last_step d before (Meet a b) last = let steps = last.steps in omega arith
@@ -80,7 +82,8 @@ some_step : (d : ℕ) (before : List Measure) (instrs : List Instr) → EndsInOn
     → 0 < length (object_steps (with_steps d before instrs))
 some_step d before [] ends = absurd ends
 some_step d before (instr ∷ []) ends =
-    let one = steps_next instr (instr_measure d before instr).step [] (last_makes d before instr ends) in omega (arith, one)
+    let one = steps_next instr (instr_measure d before instr).step [] (last_makes d before instr ends) in
+    omega (arith, one)
 some_step d before (instr ∷ next ∷ instrs) ends =
     let behind = before ++ instr_measure d before instr ∷ [] in
     let some = some_step d behind (next ∷ instrs) ends.1 in
@@ -100,7 +103,8 @@ are_steps p =
     let pairs = few_pairs p.instrs p.steps in
     let all = p.formed.few in
     record {
-      some = subst (λ (xs : List (Instr × ℕ)). 0 < length (object_steps xs)) (sym same) (some_step p.rank [] p.instrs p.formed.each);
+      some = subst (λ (xs : List (Instr × ℕ)). 0 < length (object_steps xs)) (sym same)
+          (some_step p.rank [] p.instrs p.formed.each);
       few = omega (arith, few, pairs, all);
       within = all_steps p.rank (zip p.instrs p.steps)
           (subst (AllByRecursion (λ x. x.1 ≤ p.rank)) (sym same) (steps_within p.rank [] p.instrs p.formed.each));

@@ -134,7 +134,8 @@ has_append (entry ∷ made) more name =
       | false ↦ has_append made more name
     ]
 
-has_entries : (m : Measure) (names : List Name) (name : Name) → has (entries_of m names) name ≡ list_any (λ other. name is other) names
+has_entries : (m : Measure) (names : List Name) (name : Name)
+    → has (entries_of m names) name ≡ list_any (λ other. name is other) names
 has_entries m [] name = refl
 has_entries m (other ∷ names) name =
     elim (name is other) as (λ b. is_some (cond b (Some m) (found name (entries_of m names)))
@@ -359,7 +360,8 @@ names_apart c good =
 abbrev IsName : Name → Type 0
 IsName name = is_name name ≡ true
 
-free_named : (sentences : List Sentence) → AllByRecursion IsSentence sentences → AllByRecursion IsName (flat_map free_in sentences)
+free_named : (sentences : List Sentence) → AllByRecursion IsSentence sentences
+    → AllByRecursion IsName (flat_map free_in sentences)
 free_named [] all = tt
 free_named (Sentence.Free names ∷ sentences) all =
     all_append IsName names (flat_map free_in sentences) (all_true is_name names all.0.1) (free_named sentences all.1)

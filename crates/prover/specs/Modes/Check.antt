@@ -76,8 +76,8 @@ pub record IsCheckAnswer (input : List ℕ) (answer : Answer) : Type 0 where
 
 -- ---- the verdict
 
--- The bytes are the text of a proof that is accepted for the construction; the end of its last section is the one normal
--- polynomial whose value is the conclusion's, and the verdict says whether that is zero.
+-- The bytes are the text of a proof that is accepted for the construction; the end of its last section is the one
+-- normal polynomial whose value is the conclusion's, and the verdict says whether that is zero.
 pub record BytesDecide (bytes : List ℕ) (c : Account) (answer : Answer) : Type 0 where
   pub told : Told
   pub is_text : IsProofText c bytes told

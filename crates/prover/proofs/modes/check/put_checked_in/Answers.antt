@@ -61,11 +61,15 @@ put_verdict-requires g c =
     let p = c.in_ok-program.program in
     let rank = c.in_ok-program.ensures.names.0 ∙ c.requires.rank in
     let named : AllByRecursion (IsNamed c.names-in-Ok.result.now) p.instrs =
-    subst (λ (n : Names). AllByRecursion (IsNamed n) p.instrs) (sym c.names-in-Ok.ensures) c.in_ok-program.ensures.names.1 in
-    let same : c.names-in-Ok.result.now.rank ≡ g.row.D = ap (λ (n : Names). n.rank) c.names-in-Ok.ensures ∙ c.requires.rank in
+    subst (λ (n : Names). AllByRecursion (IsNamed n) p.instrs) (sym c.names-in-Ok.ensures)
+    c.in_ok-program.ensures.names.1 in
+    let same : c.names-in-Ok.result.now.rank ≡ g.row.D =
+    ap (λ (n : Names). n.rank) c.names-in-Ok.ensures ∙ c.requires.rank in
     let told : IsProof c.names-in-Ok.result.now (program_steps p) (told_of c.in-Ok.proof) =
-    subst (λ (n : Names). IsProof n (program_steps p) (told_of c.in-Ok.proof)) (c.names.ensures ∙ sym c.names-in-Ok.ensures)
-    (subst (λ (ss : List ℕ). IsProof c.names.result.now ss (told_of c.in-Ok.proof)) (c.deref.ensures.value ∙ c.in_ok-steps.ensures) c.in-Ok.ensures.found.good) in
+    subst (λ (n : Names). IsProof n (program_steps p) (told_of c.in-Ok.proof))
+    (c.names.ensures ∙ sym c.names-in-Ok.ensures)
+    (subst (λ (ss : List ℕ). IsProof c.names.result.now ss (told_of c.in-Ok.proof))
+    (c.deref.ensures.value ∙ c.in_ok-steps.ensures) c.in-Ok.ensures.found.good) in
     search (rules, rank, named, same, told, c.in-Ok.ensures.met, c.in-Ok.ensures.countable)
 
 pub returns-in-Ok : goal.returns-in-Ok
