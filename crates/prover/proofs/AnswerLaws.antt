@@ -12,6 +12,7 @@ use Rattle.prover.specs.Modes.Prove.{IsProveAnswer, proof_answer}
 use Rattle.prover.specs.Modes.Sample.{sample_answer}
 use Rattle.prover.specs.Modes.{IsAnswer, IsInputAnswer, IsModeAnswer, IsTooLong, IsShort, longest_input}
 use Rattle.prover.proofs.ModeLaws.{some_mode, one_mode}
+use Rattle.prover.proofs.SameLaws.{some_same, one_same}
 
 -- ---- modes
 
@@ -19,12 +20,14 @@ pub some_mode_answer : (m : Mode) (input : List ℕ) → (a : Answer) × IsModeA
 some_mode_answer (mode.Prove options) input =
     some_part [] input (λ c a. a ≡ proof_answer options c) (λ c gives. (proof_answer options c, refl))
 some_mode_answer mode.Check input = some_check_answer input
+some_mode_answer (mode.Same options) input = some_same options input
 some_mode_answer (mode.Sample number budget) input = (sample_answer number budget, refl)
 
 one_mode_answer : (m : Mode) (input : List ℕ) (a b : Answer) → IsModeAnswer m input a → IsModeAnswer m input b → a ≡ b
 one_mode_answer (mode.Prove options) input a b is also =
     one_part [] input (λ c a. a ≡ proof_answer options c) (λ c gives x y is also. is ∙ sym also) a b is also
 one_mode_answer mode.Check input a b is also = one_check_answer input a b is also
+one_mode_answer (mode.Same options) input a b is also = one_same options input a b is also
 one_mode_answer (mode.Sample number budget) input a b is also = is ∙ sym also
 
 -- ---- whole inputs

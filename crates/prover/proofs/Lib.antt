@@ -7,11 +7,17 @@ pub mod PartLaws
 pub mod Programs
 pub mod ReadProofs
 pub mod CheckLaws
+pub mod Differences
+pub mod SameLaws
 pub mod AnswerLaws
 pub mod Inputs
 pub mod Outcomes
+pub mod Puts
 pub mod Calls
 pub mod Verdicts
 pub mod Proofs
 pub mod Samples
 pub mod CheckDecisions
+pub mod RunEnds
+pub mod RunLines
+pub mod Comparisons

@@ -27,13 +27,15 @@ other_word ws rest more a b differ x y = true≢false (sym ((bytes_eq-Decides a 
 pub no_words : (ws : Words) → ws ≡ [] → IsUsage ws
 no_words ws none (mode.Prove options) is = let e = is.front in cc
 no_words ws none mode.Check is = let e = is.front in cc
+no_words ws none (mode.Same options) is = let e = is.front in cc
 no_words ws none (mode.Sample number budget) is = let e = is.front in cc
 
 pub no_mode : (ws rest : Words) (word : List ℕ) → ws ≡ word ∷ rest → word ≢ codes "prove" → word ≢ codes "check"
-    → word ≢ codes "sample" → IsUsage ws
-no_mode ws rest word front prove check sample (mode.Prove options) is = let e = is.front in prove (cc)
-no_mode ws rest word front prove check sample mode.Check is = let e = is.front in check (cc)
-no_mode ws rest word front prove check sample (mode.Sample number budget) is = let e = is.front in sample (cc)
+    → word ≢ codes "same" → word ≢ codes "sample" → IsUsage ws
+no_mode ws rest word front prove check same sample (mode.Prove options) is = let e = is.front in prove (cc)
+no_mode ws rest word front prove check same sample mode.Check is = let e = is.front in check (cc)
+no_mode ws rest word front prove check same sample (mode.Same options) is = let e = is.front in same (cc)
+no_mode ws rest word front prove check same sample (mode.Sample number budget) is = let e = is.front in sample (cc)
 
 -- ---- words behind `prove`
 
@@ -50,6 +52,7 @@ behind_prove ws rest options front is =
 pub no_options : (ws rest : Words) → ws ≡ codes "prove" ∷ rest → NoOptions rest → IsUsage ws
 no_options ws rest front none (mode.Prove options) is = none options (behind_prove ws rest options front is)
 no_options ws rest front none mode.Check is = other_word ws rest is.rest (codes "prove") (codes "check") refl front is.front
+no_options ws rest front none (mode.Same options) is = let e = is.front in cc
 no_options ws rest front none (mode.Sample number budget) is = let e = is.front in cc
 
 -- ---- words behind `check`
@@ -63,6 +66,8 @@ not_alone ws rest front more (mode.Prove options) is =
 not_alone ws rest front more mode.Check is =
     let e = is.front in
     let same : is.rest ≡ rest = cc in more (sym same ∙ is.options)
+not_alone ws rest front more (mode.Same options) is =
+    other_word ws rest is.rest (codes "check") (codes "same") refl front is.front
 not_alone ws rest front more (mode.Sample number budget) is =
     other_word ws rest (decimal number ∷ is.rest) (codes "check") (codes "sample") refl front is.front
 
@@ -70,6 +75,25 @@ pub match_check : (ws rest : Words) (named : Option Mode) → ws ≡ codes "chec
     → MatchOption named (rest ≢ []) (λ m. (m ≡ mode.Check) × (rest ≡ [])) → MatchOption named (IsUsage ws) (IsMode ws)
 match_check ws rest None front more = not_alone ws rest front more
 match_check ws rest (Some m) front alone = subst (IsMode ws) (sym alone.0) (is_check ws rest front alone.1)
+
+-- ---- words behind `same`
+
+pub is_same : (ws rest : Words) (options : Options) → ws ≡ codes "same" ∷ rest → GiveOptions rest options
+    → IsMode ws (mode.Same options)
+is_same ws rest options front is = record { rest = rest; front = front; options = is; number = tt }
+
+behind_same : (ws rest : Words) (options : Options) → ws ≡ codes "same" ∷ rest → IsMode ws (mode.Same options)
+    → GiveOptions rest options
+behind_same ws rest options front is =
+    let e = is.front in
+    let same : is.rest ≡ rest = cc in subst (λ (xs : Words). GiveOptions xs options) same is.options
+
+pub no_same_options : (ws rest : Words) → ws ≡ codes "same" ∷ rest → NoOptions rest → IsUsage ws
+no_same_options ws rest front none (mode.Same options) is = none options (behind_same ws rest options front is)
+no_same_options ws rest front none (mode.Prove options) is = let e = is.front in cc
+no_same_options ws rest front none mode.Check is =
+    other_word ws rest is.rest (codes "same") (codes "check") refl front is.front
+no_same_options ws rest front none (mode.Sample number budget) is = let e = is.front in cc
 
 -- ---- words behind `sample`
 
@@ -107,6 +131,7 @@ no_sample : (ws more : Words) → ws ≡ codes "sample" ∷ more → ((number bu
 no_sample ws more front none (mode.Prove options) is = let e = is.front in cc
 no_sample ws more front none mode.Check is =
     other_word ws more is.rest (codes "sample") (codes "check") refl front is.front
+no_sample ws more front none (mode.Same options) is = let e = is.front in cc
 no_sample ws more front none (mode.Sample number budget) is = none number budget (behind_sample ws more number budget front is)
 
 pub sample_alone : (ws : Words) → ws ≡ codes "sample" ∷ [] → IsUsage ws
@@ -143,6 +168,7 @@ module _ (ws rest : Words) (word : List ℕ) (front : ws ≡ codes "sample" ∷ 
 pub one_mode : (ws : Words) (a b : Mode) → IsMode ws a → IsMode ws b → a ≡ b
 one_mode ws (mode.Prove a) (mode.Prove b) is also =
     ap mode.Prove (one_give is.rest a b is.options (behind_prove ws is.rest b is.front also))
+one_mode ws (mode.Prove a) (mode.Same b) is also = let e = is.front in let w = also.front in absurd cc
 one_mode ws (mode.Prove a) mode.Check is also =
     absurd (other_word ws is.rest also.rest (codes "prove") (codes "check") refl is.front also.front)
 one_mode ws mode.Check (mode.Prove b) is also =
@@ -152,7 +178,16 @@ one_mode ws mode.Check (mode.Sample m y) is also =
     absurd (other_word ws is.rest (decimal m ∷ also.rest) (codes "check") (codes "sample") refl is.front also.front)
 one_mode ws (mode.Sample n x) mode.Check is also =
     absurd (other_word ws (decimal n ∷ is.rest) also.rest (codes "sample") (codes "check") refl is.front also.front)
+one_mode ws (mode.Same a) mode.Check is also =
+    absurd (other_word ws is.rest also.rest (codes "same") (codes "check") refl is.front also.front)
+one_mode ws mode.Check (mode.Same b) is also =
+    absurd (other_word ws is.rest also.rest (codes "check") (codes "same") refl is.front also.front)
 one_mode ws (mode.Prove a) (mode.Sample m y) is also = let e = is.front in let w = also.front in absurd cc
+one_mode ws (mode.Same a) (mode.Same b) is also =
+    ap mode.Same (one_give is.rest a b is.options (behind_same ws is.rest b is.front also))
+one_mode ws (mode.Same a) (mode.Prove b) is also = let e = is.front in let w = also.front in absurd cc
+one_mode ws (mode.Same a) (mode.Sample m y) is also = let e = is.front in let w = also.front in absurd cc
+one_mode ws (mode.Sample n x) (mode.Same b) is also = let e = is.front in let w = also.front in absurd cc
 one_mode ws (mode.Sample n x) (mode.Prove b) is also = let e = is.front in let w = also.front in absurd cc
 one_mode ws (mode.Sample n x) (mode.Sample m y) is also =
     let b = behind_sample ws (decimal n ∷ is.rest) m y is.front also in
@@ -169,6 +204,10 @@ Named ws = ((m : Mode) × IsMode ws m) ⊎ IsUsage ws
 some_prove : (rest : Words) → ((options : Options) × GiveOptions rest options) ⊎ NoOptions rest → Named (codes "prove" ∷ rest)
 some_prove rest (inl w) = inl (mode.Prove w.0, is_prove (codes "prove" ∷ rest) rest w.0 refl w.1)
 some_prove rest (inr none) = inr (no_options (codes "prove" ∷ rest) rest refl none)
+
+some_same : (rest : Words) → ((options : Options) × GiveOptions rest options) ⊎ NoOptions rest → Named (codes "same" ∷ rest)
+some_same rest (inl w) = inl (mode.Same w.0, is_same (codes "same" ∷ rest) rest w.0 refl w.1)
+some_same rest (inr none) = inr (no_same_options (codes "same" ∷ rest) rest refl none)
 
 some_check : (rest : Words) → Named (codes "check" ∷ rest)
 some_check [] = inl (mode.Check, is_check (codes "check" ∷ []) [] refl refl)
@@ -193,14 +232,18 @@ some_sample (word ∷ rest) = go (some_number 12 word (lit< tt)) (some_give rest
 pub some_mode : (ws : Words) → Named ws
 some_mode [] = inr (no_words [] refl)
 some_mode (word ∷ rest) =
-    go (bytes_eq word (codes "prove")) (bytes_eq word (codes "check")) (bytes_eq word (codes "sample"))
-    (bytes_eq-Decides word (codes "prove")) (bytes_eq-Decides word (codes "check")) (bytes_eq-Decides word (codes "sample"))
+    go (bytes_eq word (codes "prove")) (bytes_eq word (codes "check")) (bytes_eq word (codes "same"))
+    (bytes_eq word (codes "sample")) (bytes_eq-Decides word (codes "prove")) (bytes_eq-Decides word (codes "check"))
+    (bytes_eq-Decides word (codes "same")) (bytes_eq-Decides word (codes "sample"))
   where
-    go : (a b c : Bool) → Decides a (word ≡ codes "prove") → Decides b (word ≡ codes "check")
-        → Decides c (word ≡ codes "sample") → Named (word ∷ rest)
-    go true b c prove check sample = rw (prove.0 refl) (some_prove rest (some_give rest))
-    go false true c prove check sample = rw (check.0 refl) (some_check rest)
-    go false false true prove check sample = rw (sample.0 refl) (some_sample rest)
-    go false false false prove check sample =
-        inr (no_mode (word ∷ rest) rest word refl (λ e. true≢false (sym (prove.1 e))) (λ e. true≢false (sym (check.1 e)))
+    go : (a b c d : Bool) → Decides a (word ≡ codes "prove") → Decides b (word ≡ codes "check")
+        → Decides c (word ≡ codes "same") → Decides d (word ≡ codes "sample") → Named (word ∷ rest)
+    go true b c d prove check same sample = rw (prove.0 refl) (some_prove rest (some_give rest))
+    go false true c d prove check same sample = rw (check.0 refl) (some_check rest)
+    go false false true d prove check same sample = rw (same.0 refl) (some_same rest (some_give rest))
+    go false false false true prove check same sample = rw (sample.0 refl) (some_sample rest)
+    go false false false false prove check same sample =
+        inr
+        (no_mode (word ∷ rest) rest word refl (λ e. true≢false (sym (prove.1 e))) (λ e. true≢false (sym (check.1 e)))
+        (λ e. true≢false (sym (same.1 e)))
         (λ e. true≢false (sym (sample.1 e))))

@@ -1,5 +1,5 @@
 -- What a call writes, by what was put.
-use Rattle.std.proofs.Common.{◌≡◌, ℕ, ◌⊎◌, inl, inr, Bool, true, false, List, [], ◌∷◌, ◌++◌, Option, Some, None}
+use Rattle.std.proofs.Common.{◌≡◌, ℕ, ◌⊎◌, inl, inr, Bool, true, false, List, [], ◌∷◌, ◌++◌, Option, Some, None, codes}
 use Rattle.std.proofs.Common.{Result, Ok, Err, IfOk, refl, sym, ap, subst, ◌∙◌}
 use Rattle.std.specs.Prelude.{⊤}
 use Rattle.std.specs.Result.{IsErrAnd}
@@ -13,17 +13,23 @@ use Rattle.prover.specs.declared.mode.Mode.{Mode}
 use Rattle.prover.specs.declared.mode.Mode.TheVariants as mode
 use Rattle.prover.specs.declared.status.Status.{Status}
 use Rattle.prover.specs.declared.status.Status.TheVariants.{Proved, Done, Refuted, Usage, TextRefused, Stopped}
-use Rattle.prover.specs.declared.status.Status.TheVariants.{ReadFault, WriteFault, Memory, ProofRefused}
+use Rattle.prover.specs.declared.status.Status.TheVariants.{ReadFault, WriteFault, Memory, ProofRefused, Unlike}
 use Rattle.prover.specs.Answer.{Answer}
 use Rattle.straightening.specs.Runs.{Stop}
 use Rattle.bracket_poly.specs.Sections.{Worked}
-use Rattle.prover.specs.Runs.{log_of, ends_in_zero}
+use Rattle.step_types.specs.Checks.{names_of}
+use Rattle.step_types.specs.declared.names.Names.{Names}
+use Rattle.cayley_run.specs.declared.answer.Options.{Options}
+use Rattle.cayley_run.specs.Runs.{Log}
+use Rattle.prover.specs.Ends.{same_ends}
+use Rattle.prover.specs.Runs.{log_of, last_end, ends_in_zero}
 use Rattle.prover.specs.Modes.{IsModeAnswer, IsDecision, Decides, longest_input}
 use Rattle.construction_reader.specs.Said.{Account}
 use Rattle.proof_text.specs.Told.{Told}
 use Rattle.prover.specs.Modes.Check.{IsTextAnswer, IsBytesAnswer, IsToldAnswer}
 use Rattle.prover.specs.Modes.Sample.{run_status, sample_log}
 use Rattle.prover.specs.Modes.Prove.{verdict, last_status}
+use Rattle.prover.specs.Modes.Same.{unless_stopped, behind_run, equal_or_different, compared, IsTextsAnswer}
 use Rattle.prover.specs.Outcome.{Writes, IsTold, Written, PutsAnswer, Tells, status_of}
 
 -- ---- the statuses of answers
@@ -47,6 +53,7 @@ writes_all a ProofRefused before after is e gains = (e, gains)
 writes_all a ReadFault before after is e gains = absurd is
 writes_all a WriteFault before after is e gains = absurd is
 writes_all a Memory before after is e gains = absurd is
+writes_all a Unlike before after is e gains = (e, gains)
 
 -- statuses with which no mode decides anything
 abbrev pub IsUndecided : Status → Type 0
@@ -60,6 +67,8 @@ undecided (mode.Prove options) s is (inl e) = subst IsUndecided e is
 undecided (mode.Prove options) s is (inr e) = subst IsUndecided e is
 undecided mode.Check s is (inl e) = subst IsUndecided e is
 undecided mode.Check s is (inr e) = subst IsUndecided e is
+undecided (mode.Same options) s is (inl e) = subst IsUndecided e is
+undecided (mode.Same options) s is (inr e) = subst IsUndecided e is
 undecided (mode.Sample number budget) s is e = subst IsUndecided e is
 
 -- what is put for an answer
@@ -99,30 +108,30 @@ put_written a (Err write.Write) before after m n is put =
 put_written a (Err write.Memory) before after m n is put =
     record { told = inr (inr (refl, put.front)); later = put.later; kept = λ other. put.kept (λ e. absurd (cc)) }
 
--- ---- lines of a call that answers a status
+-- ---- lines of a call that answers a value
 
 -- whether they were put
 abbrev pub done : {T : Type 0} → Result T WriteError → Result ⊤ WriteError
 done (Ok x) = Ok tt
 done (Err e) = Err e
 
-with_status : (a b : Option (List ℕ)) (i j : ℕ) (r : Result Status WriteError) (ls : List (List ℕ))
+with_value : {T : Type 0} (a b : Option (List ℕ)) (i j : ℕ) (r : Result T WriteError) (ls : List (List ℕ))
     → lines.Writes {T = ⊤} a b i j (done r) ls → lines.Writes a b i j r ls
-with_status a b i j (Ok s) ls put = record {
+with_value a b i j (Ok s) ls put = record {
   written = put.written;
   front = tt;
   later = put.later;
   fault = λ e. absurd (cc);
   kept = λ n. put.kept (λ e. absurd (cc));
 }
-with_status a b i j (Err write.Write) ls put = record {
+with_value a b i j (Err write.Write) ls put = record {
   written = tt;
   front = put.front;
   later = put.later;
   fault = λ e. put.fault refl;
   kept = λ n. absurd (n refl);
 }
-with_status a b i j (Err write.Memory) ls put = record {
+with_value a b i j (Err write.Memory) ls put = record {
   written = tt;
   front = put.front;
   later = put.later;
@@ -130,23 +139,23 @@ with_status a b i j (Err write.Memory) ls put = record {
   kept = λ n. put.kept (λ e. absurd (cc));
 }
 
-without_status : (a b : Option (List ℕ)) (i j : ℕ) (r : Result Status WriteError) (ls : List (List ℕ))
+pub without_value : {T : Type 0} (a b : Option (List ℕ)) (i j : ℕ) (r : Result T WriteError) (ls : List (List ℕ))
     → lines.Writes a b i j r ls → lines.Writes {T = ⊤} a b i j (done r) ls
-without_status a b i j (Ok s) ls put = record {
+without_value a b i j (Ok s) ls put = record {
   written = put.written;
   front = tt;
   later = put.later;
   fault = λ e. absurd (cc);
   kept = λ n. put.kept (λ e. absurd (cc));
 }
-without_status a b i j (Err write.Write) ls put = record {
+without_value a b i j (Err write.Write) ls put = record {
   written = tt;
   front = put.front;
   later = put.later;
   fault = λ e. put.fault refl;
   kept = λ n. absurd (n refl);
 }
-without_status a b i j (Err write.Memory) ls put = record {
+without_value a b i j (Err write.Memory) ls put = record {
   written = tt;
   front = put.front;
   later = put.later;
@@ -155,24 +164,24 @@ without_status a b i j (Err write.Memory) ls put = record {
 }
 
 -- lines of such a call behind others
-pub puts_more : (a b c : Option (List ℕ)) (i j k : ℕ) (r : Result Status WriteError) (ls ms : List (List ℕ))
+pub puts_more : {T : Type 0} (a b c : Option (List ℕ)) (i j k : ℕ) (r : Result T WriteError) (ls ms : List (List ℕ))
     → lines.Writes {T = ⊤} a b i j (Ok tt) ls → lines.Writes b c j k r ms → lines.Writes a c i k r (ls ++ ms)
 puts_more a b c i j k r ls ms first second =
-    with_status a c i k r (ls ++ ms)
-    (writes_more a b c i j k (done r) ls ms first (without_status b c j k r ms second))
+    with_value a c i k r (ls ++ ms)
+    (writes_more a b c i j k (done r) ls ms first (without_value b c j k r ms second))
 
-failed_done : (r : Result Status WriteError) (e : WriteError) → IsErrAnd r (λ x. x ≡ e) → IsErrAnd (done r) (λ x. x ≡ e)
+failed_done : {T : Type 0} (r : Result T WriteError) (e : WriteError) → IsErrAnd r (λ x. x ≡ e) → IsErrAnd (done r) (λ x. x ≡ e)
 failed_done (Ok s) e is = absurd is
 failed_done (Err x) e is = is
 
 -- where a call fails, the lines that were to follow are left out
-pub puts_less : (a b : Option (List ℕ)) (i j : ℕ) (e : WriteError) (r : Result Status WriteError) (ls ms : List (List ℕ))
+pub puts_less : {T : Type 0} (a b : Option (List ℕ)) (i j : ℕ) (e : WriteError) (r : Result T WriteError) (ls ms : List (List ℕ))
     → IsErrAnd r (λ x. x ≡ e) → lines.Writes {T = ⊤} a b i j (Err e) ls → lines.Writes a b i j r (ls ++ ms)
 puts_less a b i j e r ls ms is put =
-    with_status a b i j r (ls ++ ms) (writes_less a b i j e (done r) ls ms (failed_done r e is) put)
+    with_value a b i j r (ls ++ ms) (writes_less a b i j e (done r) ls ms (failed_done r e is) put)
 
 -- an error, and Ok, of such a call tell what they tell of its lines
-pub puts_error : (a b : Option (List ℕ)) (i j : ℕ) (e : WriteError) (r : Result Status WriteError) (ls : List (List ℕ))
+pub puts_error : {T : Type 0} (a b : Option (List ℕ)) (i j : ℕ) (e : WriteError) (r : Result T WriteError) (ls : List (List ℕ))
     → IsErrAnd r (λ x. x ≡ e) → lines.Writes {T = ⊤} a b i j (Err e) ls → lines.Writes a b i j r ls
 puts_error a b i j e (Ok s) ls is put = absurd is
 puts_error a b i j e (Err write.Write) ls is put =
@@ -192,7 +201,7 @@ puts_error a b i j e (Err write.Memory) ls is put =
       kept = λ n. put.kept (λ w. absurd (cc));
     }
 
-pub puts_ok : (a b : Option (List ℕ)) (i j : ℕ) (s : Status) (ls : List (List ℕ)) → lines.Writes {T = ⊤} a b i j (Ok tt) ls
+pub puts_ok : {T : Type 0} (a b : Option (List ℕ)) (i j : ℕ) (s : T) (ls : List (List ℕ)) → lines.Writes {T = ⊤} a b i j (Ok tt) ls
     → lines.Writes a b i j (Ok s) ls
 puts_ok a b i j s ls put = record {
   written = put.written;
@@ -203,10 +212,10 @@ puts_ok a b i j s ls put = record {
 }
 
 -- where there is no memory, nothing is put
-pub puts_none : (held : Option (List ℕ)) (faults : ℕ) (r : Result Status WriteError) (ls : List (List ℕ))
+pub puts_none : {T : Type 0} (held : Option (List ℕ)) (faults : ℕ) (r : Result T WriteError) (ls : List (List ℕ))
     → IsErrAnd r (λ e. e ≡ write.Memory) → lines.Writes held held faults faults r ls
 puts_none held faults r ls is =
-    with_status held held faults faults r ls (writes_none held faults (done r) ls (failed_done r write.Memory is))
+    with_value held held faults faults r ls (writes_none held faults (done r) ls (failed_done r write.Memory is))
 
 -- what is said of Ok holds at an error
 pub at_error : {T E : Type 0} (P : T → Type 0) (Q : E → Type 0) (r : Result T E) → IsErrAnd r Q → IfOk r P
@@ -240,11 +249,33 @@ text_answered text bytes a (inl (long, e)) = rw e tt
 text_answered text bytes a (inr (short, inl (f, is, e))) = rw e tt
 text_answered text bytes a (inr (short, inr (c, gives, is))) = bytes_answered bytes c a is
 
+unless_answered : (stop : Option Stop) (more : Answer) → IsAnswered more.status
+    → IsAnswered (unless_stopped stop more).status
+unless_answered None more is = is
+unless_answered (Some stop) more is = tt
+
+compared_answered : (n k : Names) (l m : Log) → IsAnswered (compared n k l m).status
+compared_answered n k l m =
+    let equal = same_ends (last_end l.objects) (last_end m.objects) in
+    let told = equal_or_different equal in
+    unless_answered l.stop (behind_run (codes "second") k m.stop (last_end m.objects) told)
+    (unless_answered m.stop told (verdict_answered equal))
+
+texts_answered : (options : Options) (first second : List ℕ) (a : Answer) → IsTextsAnswer options first second a
+    → IsAnswered a.status
+texts_answered options first second a (inl (long, e)) = rw e tt
+texts_answered options first second a (inr (short, inl (f, is, e))) = rw e tt
+texts_answered options first second a (inr (short, inr (c, gives, inl (f, is, e)))) = rw e tt
+texts_answered options first second a (inr (short, inr (c, gives, inr (d, also, inl (x, is, e))))) = rw e tt
+texts_answered options first second a (inr (short, inr (c, gives, inr (d, also, inr (alike, e))))) =
+    rw e (compared_answered (names_of c) (names_of d) (log_of options c) (log_of options d))
+
 pub mode_answered : (m : Mode) (input : List ℕ) (a : Answer) → IsModeAnswer m input a → IsAnswered a.status
 mode_answered (mode.Prove options) input a (inl (f, is, e)) = rw e tt
 mode_answered (mode.Prove options) input a (inr (c, gives, e)) =
     rw e (proof_answered (log_of options c).objects (log_of options c).stop)
 mode_answered mode.Check input a is = text_answered is.text is.bytes a is.answers
+mode_answered (mode.Same options) input a is = texts_answered options is.first is.second a is.is
 mode_answered (mode.Sample number budget) input a e = rw e (run_answered (sample_log number budget).stop)
 
 -- ---- calls of modes
@@ -271,6 +302,7 @@ pub any_input : (m : Mode) (input : List ℕ) (s : Status) (before after : Optio
     → Tells m [] s before after i j → Tells m input s before after i j
 any_input (mode.Prove options) input s before after i j unread tells = absurd cc
 any_input mode.Check input s before after i j unread tells = absurd cc
+any_input (mode.Same options) input s before after i j unread tells = absurd cc
 any_input (mode.Sample number budget) input s before after i j unread tells = record {
   answer = tells.answer;
   is_answer = tells.is_answer;

@@ -41,7 +41,7 @@ last_of-push xs x =
     ap (slice_get (xs ++ x ∷ [])) one ∙ slice_get-get_or (xs ++ x ∷ []) (length xs) x within
     ∙ ap Some (get_or-append_seam xs x [] x)
 
-all_last : {A : Type 0} (P : A → Type 0) (xs : List A) (x : A) → AllByRecursion P (xs ++ x ∷ []) → P x
+pub all_last : {A : Type 0} (P : A → Type 0) (xs : List A) (x : A) → AllByRecursion P (xs ++ x ∷ []) → P x
 all_last P [] x all = all.0
 all_last P (y ∷ xs) x all = all_last P xs x all.1
 

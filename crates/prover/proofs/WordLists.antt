@@ -27,7 +27,7 @@ other_word word text is tested fails e =
 abbrev pub behind : {X : Type 0} → List X → List X
 behind xs = take (length xs - 1) (drop 1 xs)
 
-take_all : {X : Type 0} (xs : List X) → take (length xs) xs ≡ xs
+pub take_all : {X : Type 0} (xs : List X) → take (length xs) xs ≡ xs
 take_all [] = refl
 take_all (x ∷ xs) = ap (λ (ys : List _). x ∷ ys) (take_all xs)
 

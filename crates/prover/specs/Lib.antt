@@ -6,5 +6,7 @@ pub mod Parts
 pub mod Runs
 pub mod Checked
 pub mod Refusals
+pub mod Alike
+pub mod Ends
 pub mod Modes
 pub mod Outcome

@@ -5,14 +5,16 @@ use Rattle.cayley_run.specs.declared.answer.Options.{Options}
 use Rattle.prover.specs.declared.mode.Mode.{Mode}
 use Rattle.prover.specs.declared.mode.Mode.TheVariants as mode
 use Rattle.prover.specs.declared.status.Status.{Status}
-use Rattle.prover.specs.declared.status.Status.TheVariants.{Done, Stopped, ProofRefused}
+use Rattle.prover.specs.declared.status.Status.TheVariants.{Done, Stopped, ProofRefused, Unlike}
 use Rattle.prover.specs.Answer.{Answer, IsVerdict, usage, refused}
 use Rattle.prover.specs.Words.{GiveOptions}
 use Rattle.prover.specs.Modes.Prove.{IsProveAnswer, ProveDecides}
 use Rattle.prover.specs.Modes.Check.{IsCheckAnswer, CheckDecides}
+use Rattle.prover.specs.Modes.Same.{IsSameAnswer, SameDecides}
 use Rattle.prover.specs.Modes.Sample.{sample_options, sample_answer, SampleDecides}
 pub mod Prove
 pub mod Check
+pub mod Same
 pub mod Sample
 
 -- ---- the table of modes
@@ -21,47 +23,55 @@ pub mod Sample
 abbrev pub front_words : Mode → List (List ℕ)
 front_words (mode.Prove options) = codes "prove" ∷ []
 front_words mode.Check = codes "check" ∷ []
+front_words (mode.Same options) = codes "same" ∷ []
 front_words (mode.Sample number budget) = codes "sample" ∷ decimal number ∷ []
 
 -- the words are options that it has, and give its own
 abbrev pub HasOptions : Mode → List (List ℕ) → Type 0
 HasOptions (mode.Prove options) words = GiveOptions words options
 HasOptions mode.Check words = words ≡ []
+HasOptions (mode.Same options) words = GiveOptions words options
 HasOptions (mode.Sample number budget) words = GiveOptions words (sample_options budget)
 
 -- its number is one that it takes
 abbrev pub HasNumber : Mode → Type 0
 HasNumber (mode.Prove options) = Unit {0}
 HasNumber mode.Check = Unit {0}
+HasNumber (mode.Same options) = Unit {0}
 HasNumber (mode.Sample number budget) = (1 ≤ number) × (number ≤ 12)
 
 -- the most bytes that it reads, where it reads anything
 abbrev pub longest_input : Mode → Option ℕ
 longest_input (mode.Prove options) = Some 1048576
 longest_input mode.Check = Some 1073741824
+longest_input (mode.Same options) = Some 2097216
 longest_input (mode.Sample number budget) = None
 
 -- the statuses that say that its input was read to the end
 abbrev pub IsReadToEnd : Mode → Status → Type 0
 IsReadToEnd (mode.Prove options) status = IsVerdict status ⊎ (status ≡ Stopped)
 IsReadToEnd mode.Check status = IsVerdict status ⊎ (status ≡ ProofRefused)
+IsReadToEnd (mode.Same options) status = IsVerdict status ⊎ (status ≡ Stopped) ⊎ (status ≡ Unlike)
 IsReadToEnd (mode.Sample number budget) status = ⊥
 
 -- the answer to an input that is not too long
 abbrev pub IsModeAnswer : Mode → List ℕ → Answer → Type 0
 IsModeAnswer (mode.Prove options) input answer = IsProveAnswer options input answer
 IsModeAnswer mode.Check input answer = IsCheckAnswer input answer
+IsModeAnswer (mode.Same options) input answer = IsSameAnswer options input answer
 IsModeAnswer (mode.Sample number budget) input answer = answer ≡ sample_answer number budget
 
 -- the statuses with which it decides, and what that means
 abbrev pub IsDecision : Mode → Status → Type 0
 IsDecision (mode.Prove options) status = IsVerdict status
 IsDecision mode.Check status = IsVerdict status
+IsDecision (mode.Same options) status = IsVerdict status
 IsDecision (mode.Sample number budget) status = status ≡ Done
 
 abbrev pub Decides : Mode → List ℕ → Answer → Type 0
 Decides (mode.Prove options) input answer = ProveDecides input answer
 Decides mode.Check input answer = CheckDecides input answer
+Decides (mode.Same options) input answer = SameDecides input answer
 Decides (mode.Sample number budget) input answer = SampleDecides number answer
 
 -- ---- words

@@ -2,7 +2,7 @@
 use Rattle.std.specs.Prelude.{ℕ}
 use Rattle.prover.specs.declared.status.Status.{Status}
 use Rattle.prover.specs.declared.status.Status.TheVariants.{Proved, Done, Refuted, Usage, TextRefused, Stopped}
-use Rattle.prover.specs.declared.status.Status.TheVariants.{ReadFault, WriteFault, Memory, ProofRefused}
+use Rattle.prover.specs.declared.status.Status.TheVariants.{ReadFault, WriteFault, Memory, ProofRefused, Unlike}
 
 -- the number of a status
 abbrev pub number_of : Status → ℕ
@@ -16,3 +16,4 @@ number_of ReadFault = 5
 number_of WriteFault = 6
 number_of Memory = 7
 number_of ProofRefused = 8
+number_of Unlike = 9

@@ -35,7 +35,7 @@ pub fn put_stop<K: Sink>(alloc: Global, kind: StopKind, sink: &mut K) -> Result<
 }
 
 /// What a proof text tells of a stop.
-fn stop_of(kind: StopKind) -> Stop
+pub fn stop_of(kind: StopKind) -> Stop
     ensures { result ≡ stop_kind (results.stop_of kind) }
 {
     match kind {

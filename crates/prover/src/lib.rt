@@ -2,7 +2,9 @@
 #![tactic(auto)]
 
 mod cut;
+mod difference;
 mod ending;
+mod ends;
 mod laws;
 mod lines;
 mod mode;

@@ -12,6 +12,8 @@ pub enum Mode {
     Prove(Options),
     /// To check the proof behind a text.
     Check,
+    /// To compare the conclusions of two texts, and to write both normal polynomials.
+    Same(Options),
     /// To run the sample construction of this number with so many turns, and to tell what the run came to.
     Sample { number: u32, budget: u64 },
 }
@@ -24,6 +26,7 @@ impl Mode {
         match self {
             Mode::Prove(_) => Some(1_048_576),
             Mode::Check => Some(1_073_741_824),
+            Mode::Same(_) => Some(2_097_216),
             Mode::Sample { .. } => None,
         }
     }

@@ -5,6 +5,7 @@ ghost use Rattle.prover.specs.Outcome.{Tells};
 
 mod check;
 mod prove;
+mod same;
 mod sample;
 
 use crate::mode::Mode;
@@ -21,6 +22,7 @@ pub fn tell<K: Sink>(alloc: Global, mode: Mode, input: &[u8], sink: &mut K) -> S
     match mode {
         Mode::Prove(options) => prove::prove(alloc, options, input, sink),
         Mode::Check => check::check(alloc, input, sink),
+        Mode::Same(options) => same::same(alloc, options, input, sink),
         Mode::Sample { number, budget } => sample::sample(alloc, number, budget, input, sink),
     }
 }

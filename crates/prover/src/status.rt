@@ -25,6 +25,8 @@ pub enum Status {
     Memory,
     /// The text is taken, and the proof behind it is not accepted.
     ProofRefused,
+    /// Two texts that are to be compared differ in rank, free names or parameters.
+    Unlike,
 }
 
 impl Status {
@@ -45,6 +47,7 @@ impl Status {
             Status::WriteFault => 6,
             Status::Memory => 7,
             Status::ProofRefused => 8,
+            Status::Unlike => 9,
         }
     }
 }

@@ -27,6 +27,7 @@ pub fn mode_of(words: &[String]) -> Option<Mode>
     match mode.as_str() {
         "prove" => Some(Mode::Prove(options(rest)?)),
         "check" => alone(Mode::Check, rest),
+        "same" => Some(Mode::Same(options(rest)?)),
         "sample" => sample(rest),
         _ => None,
     }
