@@ -18,6 +18,15 @@ pub mod Verdicts
 pub mod Proofs
 pub mod Samples
 pub mod CheckDecisions
+pub mod WrittenLimits
+pub mod WrittenUses
+pub mod WrittenStarts
+pub mod WrittenSections
+pub mod WrittenObjects
+pub mod WrittenRuns
+pub mod WrittenProofs
+pub mod WrittenLines
+pub mod WrittenAnswers
 pub mod RunEnds
 pub mod RunLines
 pub mod Comparisons

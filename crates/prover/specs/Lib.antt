@@ -10,3 +10,4 @@ pub mod Alike
 pub mod Ends
 pub mod Modes
 pub mod Outcome
+pub mod WrittenLaws

@@ -4,6 +4,9 @@ ghost use Rattle.std.specs.Prelude.{◌≡◌, ℕ, List};
 ghost use Rattle.prover.specs.Answer.{Answer};
 ghost use Rattle.prover.specs.Cuts.{IsSeparator, IsCut};
 ghost use Rattle.prover.specs.Modes.{IsAnswer};
+ghost use Rattle.prover.specs.WrittenLaws.{RunIsAccepted, RunIsProof, WrittenIsAccepted, WrittenIsChecked};
+
+use cayley_run::laws::runs;
 
 /// Each list of words and each input has one answer.
 pub fn one_answer()
@@ -19,3 +22,14 @@ pub fn one_cut()
     ensures unique { (separator input a r b s : List ℕ) → IsSeparator separator
         → IsCut separator input a r → IsCut separator input b s → (a ≡ b) × (r ≡ s) }
 {}
+
+/// What the run of a program wrote, where nothing stopped it, is accepted for the program, and is a proof within the limits
+/// of a text. So what `prove` answers at a verdict is accepted behind its text, with the same verdict, by `check` too.
+pub fn written_proofs()
+    ensures run { RunIsAccepted }
+    ensures told { RunIsProof }
+    ensures accepted { WrittenIsAccepted }
+    ensures checked { WrittenIsChecked }
+{
+    runs();
+}
