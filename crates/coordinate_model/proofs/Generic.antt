@@ -120,7 +120,7 @@ module _ (A : Ops) (R : IsCommRing A) where
     zero_extensor K is t = sym (extensor-generic K is) ∙ zero_of_test A R (entry ps) (extensor_of K is) t
 
   -- the values of the generic points at the places of xs are xs
-  places-are : (before xs after : Points)
+  pub places-are : (before xs after : Points)
       → map (to_point Polys A (values_at (before ++ (xs ++ after)))) (generic (length before) (length xs)) ≡ xs
   places-are before xs after =
       generic-is (before ++ (xs ++ after)) (range_from (length before) (length xs)) ∙ at_range before xs after

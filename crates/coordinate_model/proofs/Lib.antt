@@ -4,6 +4,7 @@ pub mod Bilinear
 pub mod Bools
 pub mod BracketLaws
 pub mod BracketPolynomialLaws
+pub mod BracketSteps
 pub mod Checks
 pub mod Closure
 pub mod Coefficients
@@ -20,6 +21,7 @@ pub mod Hom
 pub mod Homogeneous
 pub mod Increasing
 pub mod Independence
+pub mod InOrderLaws
 pub mod IntLaws
 pub mod IntegerRing
 pub mod JoinLaws
@@ -31,6 +33,7 @@ pub mod KeyTests
 pub mod Keys
 pub mod Leading
 pub mod LeastNumbers
+pub mod LimitedLaws
 pub mod MeetValues
 pub mod Members
 pub mod NonzeroPlacements

@@ -12,6 +12,9 @@ pub mod Evaluation
 pub mod HomLaws
 pub mod Numbers
 pub mod Placement
+pub mod Limited
+pub mod InOrder
+pub mod PlacedPoints
 pub mod SyzygyLaws
 pub mod ObjectLaws
 pub mod NormalLaws
