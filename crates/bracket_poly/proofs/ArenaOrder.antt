@@ -70,8 +70,8 @@ last_or (x ∷ xs) k q h = step (same q x) (λ e. last_or xs k q e) h
     step true later e = inl refl
     step false later e = later e
 
-pub all_with : (ks more met : List Key) (k : Key) → HasAll ks met → ((q : Key) → has_met ks q ≡ true → has_met more q ≡ true)
-    → has_met more k ≡ true → HasAll more (meet_key met k)
+pub all_with : (ks more met : List Key) (k : Key) → HasAll ks met → HasAll more ks → has_met more k ≡ true
+    → HasAll more (meet_key met k)
 all_with ks more met k h wider there q e =
     elim (has_met met k) as (λ b. has_met (cond b met (met ++ k ∷ [])) q ≡ true → has_met more q ≡ true) [
       | true ↦ λ m. wider q (h q m)
@@ -80,19 +80,6 @@ all_with ks more met k h wider there q e =
         | inr new ↦ subst (λ (x : Key). has_met more x ≡ true) (sym new) there
       ]
     ] e
-
--- behind a key that is put in
-pub all_put : (ks more met : List Key) (k l : Key) → HasAll ks met → more ≡ insert_key key_cmp ks l → l ≡ k
-    → HasAll more (meet_key met k)
-all_put ks more met k l h e s =
-    let is : more ≡ insert_key key_cmp ks k = e ∙ ap (insert_key key_cmp ks) s in
-    all_with ks more met k h
-    (λ q m. ap (λ xs. has_met xs q) is ∙ put_keeps ks k q m)
-    (ap (λ xs. has_met xs k) is ∙ put_there ks k)
-
--- and where that is not met at last
-pub all_wider : (ks more met : List Key) (l : Key) → HasAll ks met → more ≡ insert_key key_cmp ks l → HasAll more met
-all_wider ks more met l h e q m = ap (λ xs. has_met xs q) e ∙ put_keeps ks l q (h q m)
 
 -- behind a key that was met
 pub all_again : (ks met : List Key) (k : Key) → HasAll ks met → has_met met k ≡ true → HasAll ks (meet_key met k)
@@ -116,13 +103,12 @@ module _ {X E : Type 0} {d : ℕ} (r : Result X E) (old new : TrackedOf d) (k : 
           subst (λ (p : Tracked). HasAll ks p.met) (sym e) (all_again ks old.tracked.met k h (met_at old.tracked.met i k there))
       step (Err x) e f = subst (λ (p : TrackedOf d). HasAll ks p.tracked.met) (sym f) h
 
-  pub all_after_new : (more : List Key) (l : Key) → more ≡ insert_key key_cmp ks l → l ≡ k → HasAll more new.tracked.met
-  all_after_new more l m s = step r added refused
+  pub all_after_new : (more : List Key) → HasAll more ks → has_met more k ≡ true → HasAll more new.tracked.met
+  all_after_new more wider there = step r added refused
     where
       step : (o : Result X E) → OnOk o (new.tracked ≡ plus_term old.tracked (k, c)) → OnErr o (new ≡ old) → HasAll more new.tracked.met
-      step (Ok x) e f = subst (λ (p : Tracked). HasAll more p.met) (sym e) (all_put ks more old.tracked.met k l h m s)
-      step (Err x) e f =
-          subst (λ (p : TrackedOf d). HasAll more p.tracked.met) (sym f) (all_wider ks more old.tracked.met l h m)
+      step (Ok x) e f = subst (λ (p : Tracked). HasAll more p.met) (sym e) (all_with ks more old.tracked.met k h wider there)
+      step (Err x) e f = subst (λ (p : TrackedOf d). HasAll more p.tracked.met) (sym f) (λ q m. wider q (h q m))
 
 -- ---- where a key is looked for
 
@@ -146,21 +132,16 @@ pub none_reached : (met ks : List Key) (left : Terms Key) → met ≡ keys left 
 none_reached met ks left e k h = inr (sym (ap (λ xs. has_met xs k) e) ∙ h)
 
 pub one_reached : (met ks more : List Key) (left next : Terms Key) (k l : Key) (c : ℤ) → Reaches met ks left
-    → left ≡ (k, c) ∷ next → more ≡ insert_key key_cmp ks l → l ≡ k → Reaches met more next
-one_reached met ks more left next k l c h e m s q old = elim (h q old) [
-  | inl there ↦ inl (ap (λ xs. has_met xs q) is ∙ put_keeps ks k q there)
+    → left ≡ (k, c) ∷ next → HasAll more ks → has_met more l ≡ true → l ≡ k → Reaches met more next
+one_reached met ks more left next k l c h e wider put s q old = elim (h q old) [
+  | inl there ↦ inl (wider q there)
   | inr later ↦ step (same q k) refl (sym (ap (λ es. has_met (keys es) q) e) ∙ later)
 ]
   where
-    is : more ≡ insert_key key_cmp ks k
-    is = m ∙ ap (insert_key key_cmp ks) s
-
     step : (b : Bool) → same q k ≡ b → (b || has_met (keys next) q) ≡ true
         → (has_met more q ≡ true) ⊎ (has_met (keys next) q ≡ true)
     step true p f =
-        inl (ap (λ xs. has_met xs q) is
-        ∙ subst (λ (x : Key). has_met (insert_key key_cmp ks k) x ≡ true)
-        (sym (key_same q k ((Equal-is (key_cmp q k)).0 p))) (put_there ks k))
+        inl (subst (λ (x : Key). has_met more x ≡ true) (s ∙ sym (key_same q k ((Equal-is (key_cmp q k)).0 p))) put)
     step false p f = inr f
 
 pub all_reached : (met ks : List Key) (left : Terms Key) → Reaches met ks left → left ≡ [] → HasAll ks met

@@ -14,4 +14,6 @@ pub mod ArenaLaws
 mod ArenaRows
 mod ArenaSteps
 mod ArenaCopies
+mod HeadLaws
 pub mod ArenaOrder
+mod OrderLaws

@@ -10,3 +10,5 @@ pub mod Sections
 pub mod Arena
 pub mod Makings
 pub mod Laws
+pub mod Heads
+pub mod Orders

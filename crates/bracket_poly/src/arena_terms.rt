@@ -4,18 +4,18 @@ ghost use Rattle.std.specs.Iterator.{YieldsFirstBy, item_count};
 ghost use Rattle.bracket_poly.specs.Arena.{HasAll, entry_at, key_of, terms_at};
 
 use crate::arena_table::ArenaTable;
+use crate::key_order::KeyOrder;
+use crate::key_walk::KeyWalk;
 use crate::numbers::is_zero;
 use crate::view_key::ViewKey;
 use bracket_terms::{Bracket, Params};
 use cay_base::NoMemory;
 use indexmap::IndexMap;
-use std::collections::BTreeSet;
-use std::collections::btree_set::Iter;
 
 /// The terms that are left, in ascending key order: those of the keys that are left.
 #[derive(Drop)]
 pub struct ArenaTerms<'t, 'a, const D: usize> {
-    keys: Iter<'t, ViewKey<'a, D>>,
+    keys: KeyWalk<'t, 'a, D>,
     entries: &'t IndexMap<ViewKey<'a, D>, i128>,
     ghost ranked: { D ≤ 4 },
 }
@@ -35,12 +35,13 @@ impl<'t, 'a, const D: usize> Iterator for ArenaTerms<'t, 'a, D> {
 
 /// The next of the keys that has a term, and its coefficient.
 fn next_term<'t, 'a, const D: usize>(
-    keys: &mut Iter<'t, ViewKey<'a, D>>,
+    keys: &mut KeyWalk<'t, 'a, D>,
     entries: &IndexMap<ViewKey<'a, D>, i128>,
 ) -> Option<(&'t ViewKey<'a, D>, i128)>
     ensures { YieldsFirstBy (λ term. (term.0.now, term.1)) (terms_at entries.now.entries) keys.old result keys.new }
 {
-    while let Some(key) = keys.next() {
+    while let Some(headed) = keys.next() {
+        let key = headed.key();
         let c = coefficient_at(entries, key);
         if !is_zero(c) {
             return Some((key, c));
@@ -61,10 +62,10 @@ fn coefficient_at<'a, const D: usize>(
 
 impl<'a, const D: usize> ArenaTable<'a, D> {
     /// The met keys in ascending order.
-    pub(crate) fn order(&self) -> Result<BTreeSet<ViewKey<'a, D>>, NoMemory>
-        ensures { IfOk result (λ order. HasAll order.keys self.now.tracked.met) }
+    pub(crate) fn order(&self) -> Result<KeyOrder<'a, D>, NoMemory>
+        ensures { IfOk result (λ order. HasAll order self.now.tracked.met) }
     {
-        let mut order = BTreeSet::new(self.alloc);
+        let mut order = KeyOrder::new(self.alloc);
         for (key, _) in self.met.iter() {
             order.insert(ViewKey::of(key.params(), key.rows()))?;
         }
@@ -72,15 +73,12 @@ impl<'a, const D: usize> ArenaTable<'a, D> {
     }
 
     /// The terms in this order of the met keys.
-    pub(crate) fn terms_in<'t>(
-        &'t self,
-        order: &'t BTreeSet<ViewKey<'a, D>>,
-    ) -> ArenaTerms<'t, 'a, D>
-        requires { HasAll order.now.keys self.now.tracked.met }
+    pub(crate) fn terms_in<'t>(&'t self, order: &'t KeyOrder<'a, D>) -> ArenaTerms<'t, 'a, D>
+        requires { HasAll order.now self.now.tracked.met }
         ensures { terms_at result.entries.now.entries result.keys ≡ self.now.tracked.sum.terms }
     {
         ArenaTerms {
-            keys: order.iter(),
+            keys: order.walk(),
             entries: &self.met,
         }
     }

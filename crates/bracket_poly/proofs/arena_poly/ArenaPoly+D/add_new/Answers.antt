@@ -1,5 +1,5 @@
-use Rattle.std.proofs.Common.{rules, sym, ap, subst, ◌∙◌}
-use Rattle.std.specs.Prelude.{T}
+use Rattle.std.proofs.Common.{◌≡◌, rules, sym, ap, subst, ◌∙◌}
+use Rattle.std.specs.Prelude.{true, T}
 use mir.Syntax.{w128}
 use Rattle.std.proofs.lemmas.Int.{to_z-of_z}
 use Rattle.coordinate_model.specs.Key.{Key, IsKey}
@@ -33,8 +33,12 @@ add_placed-requires g c = (
   ),
 )
 
+pub invariant_of-self : goal.invariant_of-self
+invariant_of-self g c = λ q m. c.in_default-insert.ensures.others q (c.self.invariant q m)
+
 pub invariant_of-self-2 : goal.invariant_of-self-2
 invariant_of-self-2 g c =
-    all_after_new c.add_placed.result c.self.inside.table c.add_placed.new.self _ _ c.self.inside.order.keys c.self.invariant
-    c.add_placed.ensures.added c.add_placed.ensures.unchanged _ _ c.in-Ok-insert.ensures.keys
-    (c.of.ensures ∙ same_parts _ c.in-Ok.key c.params.ensures c.rows.ensures)
+    all_after_new c.add_placed.result c.self.inside.table c.add_placed.new.self _ _ c.self.inside.order c.self.invariant
+    c.add_placed.ensures.added c.add_placed.ensures.unchanged c.insert.new.self c.in-Ok-insert.ensures.others
+    (subst (λ (k : Key). has_met c.insert.new.self k ≡ true)
+    (c.of.ensures ∙ same_parts _ c.in-Ok.key c.params.ensures c.rows.ensures) c.in-Ok-insert.ensures.there)

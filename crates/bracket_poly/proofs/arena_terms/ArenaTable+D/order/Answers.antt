@@ -13,7 +13,8 @@ loop-key-init g c =
 
 pub loop-key-preserved : goal.loop-key-preserved
 loop-key-preserved g c =
-    one_reached _ _ _ _ _ _ _ _ c.loop-key.invariant c.in-Some.ensures.steps c.in_ok-insert.ensures.keys
+    one_reached _ _ _ _ _ _ _ _ c.loop-key.invariant c.in-Some.ensures.steps c.in_ok-insert.ensures.others
+    c.in_ok-insert.ensures.there
     (c.of.ensures ∙ same_parts _ c.in-Some.key.now c.params.ensures c.rows.ensures)
 
 pub returns : goal.returns

@@ -8,7 +8,7 @@ use Rattle.bracket_poly.proofs.arena_terms.ArenaTable+D.terms_in.Goals as goal
 pub returns : goal.returns
 returns g c =
     let entries : Terms _ = c.self.inside.met.entries in
-    ap (λ ks. terms_at entries ks) c.iter.ensures.rest
-    ∙ terms_are entries c.args.order.now.keys c.self.inside.formed.once c.iter.ensures.ordered
-    (subst (λ (p : TrackedOf g.row.D). HasAll c.args.order.now.keys p.tracked.met) (sym c.self.view_is) c.requires)
+    ap (λ ks. terms_at entries ks) c.walk.ensures.keys
+    ∙ terms_are entries c.args.order.now c.self.inside.formed.once c.walk.ensures.ascending
+    (subst (λ (p : TrackedOf g.row.D). HasAll c.args.order.now p.tracked.met) (sym c.self.view_is) c.requires)
     ∙ ap (λ (p : TrackedOf g.row.D). p.tracked.sum.terms) c.self.view_is
