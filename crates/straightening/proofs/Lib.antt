@@ -6,7 +6,6 @@ pub mod TurnLaws
 pub mod RunLemmas
 pub mod UseLemmas
 pub mod NextUses
-pub mod PlacedRows
 pub mod SoFar
 pub mod Members
 pub mod BoundLaws

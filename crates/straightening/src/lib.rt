@@ -5,7 +5,6 @@ pub mod laws;
 mod multiple;
 mod queue;
 mod queue_key;
-mod rows;
 mod run;
 mod straight;
 mod turn;

@@ -1,23 +1,21 @@
 //! Adding a multiple of a syzygy to a polynomial over an arena, whose keys that are not standard stand in a queue.
-ghost use Rattle.std.specs.Prelude.{◌≡◌, ◌≢◌, [], ◌∷◌, true, pos, T, OnOk, IsSorted};
+ghost use Rattle.std.specs.Prelude.{[], ◌∷◌, OnOk, IsSorted};
 ghost use Rattle.coordinate_model.specs.Key.{row_cmp};
 ghost use Rattle.coordinate_model.specs.Sequences.{IsRank};
 ghost use Rattle.coordinate_model.specs.Syzygy.{additions};
 ghost use Rattle.bracket_poly.specs.Answers.{AddsTerms};
 ghost use Rattle.bracket_poly.specs.Arena.{key_of};
-ghost use Rattle.bracket_poly.specs.Tracked.{fits};
 ghost use Rattle.bracket_terms.specs.LogUses.{use_of};
 ghost use Rattle.syzygies.specs.Additions.{addition};
 ghost use Rattle.syzygies.specs.Terms.{term_of};
 ghost use Rattle.straightening.specs.Queues.{Covers, TakesIn};
 
 use crate::queue::Queue;
-use crate::rows::fill;
 use bracket_poly::{ArenaTable, PolyError};
 use bracket_terms::{Bracket, LogUse, Params};
 use cay_base::NoMemory;
 use std::alloc::Global;
-use syzygies::{PairTerm, product_within, syzygy};
+use syzygies::{PairTerm, add_pair_in, syzygy};
 use tableau_order::is_standard;
 
 /// Adds the terms of the multiple one after another, in ascending order of their keys, up to the first that passes a limit.
@@ -56,38 +54,15 @@ fn add_pair<'a, const D: usize>(
     pair: &PairTerm<D>,
 ) -> Result<(), PolyError>
     requires covers { Covers D queue.old poly.old.tracked.sum }
-    ensures adds { AddsTerms poly.old.tracked (addition (use_of log_use.now) (term_of pair.now) ∷ []) result poly.new.tracked }
+    ensures adds { AddsTerms poly.old.tracked (addition (use_of log_use.now) (term_of pair.now) ∷ []) result
+        poly.new.tracked }
     ensures covers { OnOk result (Covers D queue.new poly.new.tracked.sum) }
 {
-    let Some(product) = product_within(log_use.multiplier, pair.sign_count) else {
-        return Err(PolyError::Coefficient);
-    };
-    let Ok(()) = fill(buffer, log_use.rest.items(), &pair.low, &pair.high) else {
-        return Err(PolyError::Memory);
-    };
-    add_term(poly, queue, &log_use.params, buffer, product)
-}
-
-/// Adds a term.
-fn add_term<'a, const D: usize>(
-    poly: &mut ArenaTable<'a, D>,
-    queue: &mut Queue<'a, D>,
-    params: &Params,
-    rows: &[Bracket<D>],
-    c: i128,
-) -> Result<(), PolyError>
-    requires ascending { IsSorted row_cmp rows.now }
-    requires not_zero { c ≢ pos 0 }
-    requires small { T (fits c) }
-    requires covers { Covers D queue.old poly.old.tracked.sum }
-    ensures adds { AddsTerms poly.old.tracked ((key_of params.now rows.now, c) ∷ []) result poly.new.tracked }
-    ensures covers { OnOk result (Covers D queue.new poly.new.tracked.sum) }
-{
-    let (view, fresh) = poly.add_term(params, rows, c)?;
+    let (view, fresh) = add_pair_in(poly, buffer, log_use, pair)?;
     if !fresh {
         return Ok(());
     }
-    let Ok(()) = take_in(queue, params, view) else {
+    let Ok(()) = take_in(queue, &log_use.params, view) else {
         return Err(PolyError::Memory);
     };
     Ok(())

@@ -1,16 +1,23 @@
 -- Adding one term of a multiple.
-use Rattle.std.proofs.Common.{◌≡◌, ◌≢◌, ℕ, zero, suc, Bool, true, false, List, [], ◌∷◌, ◌++◌, map, refl, sym, ap, ◌∙◌, arith}
+use Rattle.std.proofs.Common.{◌≡◌, ◌≢◌, ℕ, zero, suc, Bool, true, false, List, [], ◌∷◌, ◌++◌, map, refl, sym, ap}
+use Rattle.std.proofs.Common.{◌∙◌, arith}
 use Rattle.std.proofs.Common.{◌+◌, ◌<◌, length, drop, get_or}
 use Rattle.std.proofs.Math.Seq.{drop-cons}
-use Rattle.std.specs.Prelude.{ℤ, pos, negsuc, ◌*ℤ◌, flat_map}
+use Rattle.std.specs.Prelude.{ℤ, pos, negsuc, ◌*ℤ◌, flat_map, Result, Ok, Err, OnOk, OnErr}
 use Rattle.std.proofs.lemmas.Int.{to_z-of_z}
 use mir.Syntax.{w8, w128}
 use mir.Val.{SFits, to_z, of_z}
-use Rattle.bracket_poly.proofs.Additions.{nonzero_product, not_zero_is}
+use Rattle.bracket_poly.specs.Answers.{AnswersLimit, AddsTerms}
+use Rattle.bracket_poly.specs.Kept.{TrackedOf}
+use Rattle.bracket_poly.specs.Tracked.{Tracked, limit_at, plus_term}
+use Rattle.bracket_poly.specs.declared.error.PolyError.{PolyError}
+use Rattle.bracket_poly.proofs.Additions.{nonzero_product, not_zero_is, adds_one}
 use Rattle.bracket_poly.proofs.KeyParts.{same_parts}
+use Rattle.bracket_terms.specs.LogUses.{use_of}
+use Rattle.bracket_terms.specs.declared.log_use.LogUse.{LogUse}
 use Rattle.bracket_terms.proofs.ExponentLaws.{add_exponents-nothing}
-use Rattle.coordinate_model.specs.Sums.{is_zero}
-use Rattle.coordinate_model.specs.Key.{row_cmp, rows_key, key_times}
+use Rattle.coordinate_model.specs.Sums.{Terms, is_zero}
+use Rattle.coordinate_model.specs.Key.{Key, row_cmp, rows_key, key_times}
 use Rattle.coordinate_model.specs.Syzygy.{Use, syz, additions}
 use Rattle.coordinate_model.specs.Words.{ordered}
 use Rattle.syzygies.specs.declared.pair.PairTerm.{PairTerm}
@@ -42,6 +49,12 @@ nonzero_is z h = step (is_zero z) refl
 pub not_zero_product : (c m s : ℤ) → c ≡ m *ℤ s → m ≢ pos 0 → s ≢ pos 0 → c ≢ pos 0
 not_zero_product c m s e h k =
     not_zero_is c (ap is_zero e ∙ nonzero_product m s (nonzero_is m h) (nonzero_is s k))
+
+-- no term of a use has the integer 0
+pub nonzero_addition : {d : ℕ} (u : LogUse d) (p : PairTerm d) → is_zero (addition (use_of u) (term_of p)).1 ≡ false
+nonzero_addition u p =
+    nonzero_product u.multiplier p.sign_count (nonzero_is u.multiplier u.formed.formed.not_zero)
+    (nonzero_is p.sign_count p.not_zero)
 
 -- ---- the key
 
@@ -75,3 +88,22 @@ all_additions d u pairs α β γ ea eb eg e =
         → flat_map (λ p. addition u (term_of p) ∷ []) pairs ≡ map (addition u) (terms_of pairs)
     each [] = refl
     each (p ∷ pairs) = ap (λ ts. addition u (term_of p) ∷ ts) (each pairs)
+
+-- ---- what is answered beside
+
+-- the terms that are added do not depend on it
+pub same_answer : {X Y : Type 0} {old new : Tracked} {ts : Terms Key} {x : X} {y : Y} → AddsTerms old ts (Ok x) new
+    → AddsTerms old ts (Ok y) new
+same_answer a = record { answer = a.answer; all = a.all; refused = a.refused; front = a.front }
+
+pub same_error : {X Y : Type 0} {old new : Tracked} {ts : Terms Key} {e : PolyError}
+    → AddsTerms {X = X} old ts (Err e) new → AddsTerms {X = Y} old ts (Err e) new
+same_error a = record { answer = a.answer; all = a.all; refused = a.refused; front = a.front }
+
+-- a call that adds one term, and answers something beside
+pub adds_beside : {X : Type 0} (d : ℕ) (old new : TrackedOf d) (t : Key × ℤ) (r : Result X PolyError)
+    → AnswersLimit r (limit_at old.tracked t) → OnOk r (new.tracked ≡ plus_term old.tracked t) → OnErr r (new ≡ old)
+    → AddsTerms old.tracked (t ∷ []) r new.tracked
+adds_beside d old new t (Ok x) a p q = same_answer (adds_one old.tracked new.tracked t (Ok tt) a p tt)
+adds_beside d old new t (Err e) a p q =
+    same_error (adds_one old.tracked new.tracked t (Err e) a tt (ap (λ (u : TrackedOf d). u.tracked) q))

@@ -4,6 +4,7 @@ pub mod CollectedLaws
 pub mod EightBits
 pub mod Falls
 pub mod PartialSums
+pub mod PlacedRows
 pub mod Rewriting
 pub mod Rows
 pub mod SplitTermLaws

@@ -5,12 +5,15 @@ mod collect;
 mod collected;
 pub mod laws;
 mod multiple;
+mod multiple_in;
 mod pair;
 mod place;
 mod points;
+mod row_buffer;
 mod split_term;
 
 pub use collected::syzygy;
 pub use multiple::{add_multiple, product_within};
+pub use multiple_in::{add_multiple_in, add_pair_in};
 pub use pair::PairTerm;
 pub use place::{Parts, at_place};

@@ -1,50 +1,43 @@
-use Rattle.std.proofs.Common.{rules, ◌∷◌, [], ◌++◌, List, ℕ, T, ap, sym, subst, ◌≡◌, ◌∙◌}
-use mir.Syntax.{w8, w128}
-use mir.Val.{SFits}
-use Rattle.std.proofs.lemmas.Int.{to_z-of_z}
-use Rattle.std.specs.Cmp.Lexicographic.{nat_list_cmp_total}
-use Rattle.std.specs.List.Sorted.{IsSorted}
-use Rattle.bracket_poly.specs.Tracked.{fits}
-use Rattle.bracket_poly.proofs.Additions.{adds_this}
-use Rattle.coordinate_model.specs.Key.{row_cmp}
-use Rattle.coordinate_model.specs.Words.{ordered}
-use Rattle.coordinate_model.proofs.SortedRows.{sorted-ordered}
-use Rattle.syzygies.proofs.AddLemmas.{passed_product, not_zero_product, added_key}
+use Rattle.std.proofs.Common.{ℤ, [], ◌∷◌, refl, sym, subst, ◌∙◌}
+use Rattle.bracket_poly.specs.Tracked.{Tracked}
+use Rattle.bracket_terms.specs.LogUses.{use_of}
+use Rattle.coordinate_model.specs.Key.{Key}
+use Rattle.syzygies.specs.Additions.{addition}
+use Rattle.syzygies.specs.Terms.{term_of}
+use Rattle.syzygies.proofs.AddLemmas.{same_answer, nonzero_addition}
+use Rattle.straightening.specs.Queues.{Covers, TakesIn}
+use Rattle.straightening.proofs.CoverLaws.{covers_new, covers_same}
 use Rattle.straightening.proofs.multiple.add_pair.Goals as goal
 
-pub add_term-requires : goal.add_term-requires
-add_term-requires g c =
-    let multiplier : SFits w128 c.args.log_use.now.multiplier = search rules in
-    let count : SFits w8 c.args.pair.now.sign_count = search rules in
-    let product : SFits w128 c.in-Some.product = search rules in
-    let number = passed_product _ _ _ multiplier count product c.in-Some.ensures.0 in
-    let rows : c.deref.result.now ≡ ordered row_cmp (c.items.result.now ++ c.args.pair.now.low ∷ c.args.pair.now.high ∷ []) =
-    c.deref.ensures.value ∙ c.in-Ok.ensures in (
-      search rules,
-      (
-        search rules,
-        (
-          search rules,
-          (
-            subst (λ (rs : List (List ℕ)). IsSorted row_cmp rs) (sym rows)
-                (sorted-ordered nat_list_cmp_total (c.items.result.now ++ c.args.pair.now.low ∷ c.args.pair.now.high ∷ [])),
-            (
-              not_zero_product _ _ _ number c.args.log_use.now.formed.formed.not_zero c.args.pair.now.not_zero,
-              (subst T (sym (ap fits (to_z-of_z w128 _ product) ∙ c.in-Some.ensures.1)) tt, c.requires.covers),
-            ),
-          ),
-        ),
-      ),
-    )
+pub returns-then-not-fresh-clause-adds : goal.returns-then-not-fresh-clause-adds
+returns-then-not-fresh-clause-adds g c = same_answer c.in_ok-view.ensures.adds
+
+pub returns-then-not-fresh-clause-covers : goal.returns-then-not-fresh-clause-covers
+returns-then-not-fresh-clause-covers g c =
+    let term : Key × ℤ = addition (use_of c.args.log_use.now) (term_of c.args.pair.now) in
+    subst (λ (p : Tracked). Covers g.row.D c.args.queue.now p.sum) (sym c.in_ok-view.ensures.adds.all)
+    (covers_same g.row.D c.args.queue.now c.args.poly.now.tracked term.0 term.1
+    (nonzero_addition c.args.log_use.now c.args.pair.now) c.requires.covers
+    (sym c.in_ok-view.ensures.fresh ∙ c.if-not-fresh.true))
+
+pub returns-in_default-clause-adds : goal.returns-in_default-clause-adds
+returns-in_default-clause-adds g c =
+    let term : Key × ℤ = addition (use_of c.args.log_use.now) (term_of c.args.pair.now) in
+    record {
+      answer = tt;
+      all = tt;
+      refused = λ n. absurd (n refl);
+      front = (term ∷ [], [], refl, c.in_ok-view.ensures.adds.all);
+    }
 
 pub returns-clause-adds : goal.returns-clause-adds
-returns-clause-adds g c =
-    let multiplier : SFits w128 c.args.log_use.now.multiplier = search rules in
-    let count : SFits w8 c.args.pair.now.sign_count = search rules in
-    let product : SFits w128 c.in-Some.product = search rules in
-    let number = passed_product _ _ _ multiplier count product c.in-Some.ensures.0 in
-    let key = added_key c.args.log_use.now.params c.args.log_use.now.rest c.args.pair.now.low c.args.pair.now.high
-    c.deref.result.now
-    (c.deref.ensures.value ∙ c.in-Ok.ensures
-    ∙ ap (λ rows. ordered row_cmp (rows ++ c.args.pair.now.low ∷ c.args.pair.now.high ∷ [])) c.items.ensures) in
-    adds_this _ _ _ _ _ (λ j. (key j, number j)) c.add_term.ensures.adds
+returns-clause-adds g c = same_answer c.in_ok-view.ensures.adds
+
+pub returns-clause-covers : goal.returns-clause-covers
+returns-clause-covers g c =
+    let term : Key × ℤ = addition (use_of c.args.log_use.now) (term_of c.args.pair.now) in
+    subst (λ (p : Tracked). Covers g.row.D c.take_in.new.queue p.sum) (sym c.in_ok-view.ensures.adds.all)
+    (covers_new g.row.D c.args.queue.now c.take_in.new.queue c.args.poly.now.tracked term.0 term.1
+    (nonzero_addition c.args.log_use.now c.args.pair.now) c.requires.covers
+    (subst (λ (k : Key). TakesIn g.row.D c.args.queue.now c.take_in.new.queue k) c.in_ok-view.ensures.placed
+    c.in-Ok.ensures))

@@ -1,7 +1,7 @@
 use Rattle.std.proofs.Common.{◌≡◌, ◌≤◌, ◌-◌, ◌++◌, length, take, drop}
 use Rattle.coordinate_model.specs.Key.{row_cmp}
 use Rattle.coordinate_model.specs.Words.{place}
-use Rattle.straightening.proofs.rows.put_row.Given as goal
+use Rattle.syzygies.proofs.row_buffer.put_row.Given as goal
 
 abbrev pub invariant-loop-at : goal.invariant-loop-at
 invariant-loop-at g l =

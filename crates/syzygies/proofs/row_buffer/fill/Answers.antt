@@ -2,8 +2,8 @@ use Rattle.std.proofs.Common.{◌≡◌, ◌++◌, List, ℕ, ap, subst, ◌∙�
 use Rattle.std.specs.Prelude.{OnOk}
 use Rattle.coordinate_model.specs.Key.{row_cmp}
 use Rattle.coordinate_model.specs.Words.{place}
-use Rattle.straightening.proofs.PlacedRows.{with_two}
-use Rattle.straightening.proofs.rows.fill.Goals as goal
+use Rattle.syzygies.proofs.PlacedRows.{with_two}
+use Rattle.syzygies.proofs.row_buffer.fill.Goals as goal
 
 pub returns : goal.returns
 returns g c =
