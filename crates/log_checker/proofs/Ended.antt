@@ -1,6 +1,7 @@
 -- The values of free points, and the values that sections of the code end with.
 use Rattle.std.proofs.Common.{◌≡◌, ℕ, ◌+◌, ◌<◌, ◌≤◌, Bool, true, false, cond, List, [], ◌∷◌, ◌++◌, map, drop}
-use Rattle.std.proofs.Common.{length, get_or, refl, sym, ap, ◌∙◌, append_assoc, append-nil, replicate, arith, subst, is_lt}
+use Rattle.std.proofs.Common.{length, get_or, refl, sym, ap, ◌∙◌, append_assoc, append-nil, replicate, arith, subst}
+use Rattle.std.proofs.Common.{is_lt}
 use Rattle.std.proofs.lemmas.List.{drop_more}
 use Rattle.std.specs.Prelude.{T, Option, Some, None, IsSomeAnd, pos}
 use Rattle.std.specs.Option.{option_map}
@@ -9,8 +10,8 @@ use Rattle.std.specs.FinMap.Entries.{below_all}
 use Rattle.std.specs.List.{AllByRecursion, cons_option}
 use Rattle.coordinate_model.specs.Sequences.{IsRank}
 use Rattle.coordinate_model.specs.BracketPolynomial.{BracketPolynomial}
-use Rattle.coordinate_model.specs.Key.{Key, row_cmp}
-use Rattle.coordinate_model.specs.Sums.{Terms, sum_of, single}
+use Rattle.coordinate_model.specs.Key.{row_cmp}
+use Rattle.coordinate_model.specs.Sums.{sum_of, single}
 use Rattle.coordinate_model.specs.Starts.{Entry, has_term}
 use Rattle.coordinate_model.specs.Value.{Value, HasStep}
 use Rattle.coordinate_model.proofs.Bools.{both, first, second}
@@ -123,36 +124,9 @@ pub value_done : (done : Value) (cs rest : List Claim) → done ++ ended_value r
     → done ≡ ended_value cs
 value_done done cs rest h e = sym (append-nil done) ∙ ap (λ xs. done ++ ended_value xs) (sym e) ∙ h
 
--- the entry by a section's end
-abbrev by_end : List ℕ → BracketPolynomial → Option Entry
-by_end scalar f = cond (has_term (scalar, f)) (Some (scalar, f)) None
-
 module _ {d : ℕ} (s : Section d) where
   abbrev end_by : Option (TrackedOf d) → BracketPolynomial
   end_by o = end_or_zero (option_map (λ p. p.tracked.sum) o)
-
-  -- a section that ends with a term, and one that does not
-  pub ends_some : (f : TrackedOf d) → s.end ≡ Some f → 0 < length f.tracked.sum.terms
-      → entry_of_end (claim_of s) ≡ Some (points_of s.scalar, f.tracked.sum)
-  ends_some f e h = ap (λ o. by_end (points_of s.scalar) (end_by o)) e ∙ by_terms f.tracked.sum.terms h
-    where
-      by_terms : (ts : Terms Key) → 0 < length ts
-          → cond {A = Option Entry} (elim ts as (λ _. Bool) [ [] ↦ false | t ∷ us ↦ true ])
-          (Some (points_of s.scalar, f.tracked.sum)) None
-          ≡ Some (points_of s.scalar, f.tracked.sum)
-      by_terms [] h = absurd (omega arith)
-      by_terms (t ∷ ts) h = refl
-
-  pub ends_zero : (f : TrackedOf d) → s.end ≡ Some f → length f.tracked.sum.terms ≤ 0
-      → entry_of_end (claim_of s) ≡ None
-  ends_zero f e h = ap (λ o. by_end (points_of s.scalar) (end_by o)) e ∙ by_terms f.tracked.sum.terms h
-    where
-      by_terms : (ts : Terms Key) → length ts ≤ 0
-          → cond {A = Option Entry} (elim ts as (λ _. Bool) [ [] ↦ false | t ∷ us ↦ true ])
-          (Some (points_of s.scalar, f.tracked.sum)) None
-          ≡ None
-      by_terms [] h = refl
-      by_terms (t ∷ ts) h = absurd (omega arith)
 
   -- the end of one that can be checked is small
   pub end_small : HasSmallEnd s → HasDegree 1000 (claim_of s).end

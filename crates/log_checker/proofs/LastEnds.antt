@@ -58,9 +58,6 @@ module _ {d : ℕ} (objects : List (ObjectLog d)) (front : List (List Claim)) (c
         ap (option_map claim_of) (e ∙ ap (λ xs. slice_get xs 0) sections) ∙ sym (slice_get-map claim_of o.sections 0)
         ∙ ap (λ cs. slice_get cs 0) (some_claims o last)
 
-    pub no_section : None ≡ slice_get ss 0 → ⊥
-    no_section e = let h : option_map (claim_of {d = d}) None ≡ Some c = first_claim None e in absurd cc
-
     module _ (s : Section d) (first : Some s ≡ slice_get ss 0) where
       claim_is : claim_of s ≡ c
       claim_is = let h : Some (claim_of s) ≡ Some c = first_claim (Some s) first in cc

@@ -120,14 +120,6 @@ module _ {d : ℕ} (starts : List (Extensor × TrackedOf d)) (sections : List (S
           (to_first Same h.long (h.left k))).1;
     }
 
-    -- one that is not the same
-    pub same_fails : (points_of x.0 ≡ points_of s.scalar → ⊥) → SameFrom i
-        → HaveScalars (seen starts) (claims_of sections) → ⊥
-    same_fails e h k =
-        e (heads_same (points_of x.0) (points_of s.scalar) (map (λ y. y.0) (seen (drop (i + 1) starts)))
-        (map (λ c. c.scalar) (claims_of (drop (i + 1) sections)))
-        (to_first Same h.long (h.left k))).0
-
   pub same_ends : (i : ℕ) → SameFrom i → length sections ≤ i → HaveScalars (seen starts) (claims_of sections)
   same_ends i h e =
       h.all

@@ -1,8 +1,8 @@
 use Rattle.std.proofs.Common.{map, drop}
 use Rattle.bracket_terms.specs.LogUses.{use_of}
 use Rattle.log_checker.proofs.UseSteps.{UsesSoFar}
-use Rattle.log_checker.proofs.uses.with_uses.Given as goal
+use Rattle.log_checker.proofs.uses.add_uses.Given as goal
 
 abbrev pub invariant-loop-done : goal.invariant-loop-done
 invariant-loop-done g l =
-    UsesSoFar l.start.tracked (map use_of l.uses) (map use_of (drop l.done l.uses)) l.done l.sum.tracked
+    UsesSoFar l.fn.sum.tracked (map use_of l.uses) (map use_of (drop l.done l.uses)) l.done l.sum.tracked
