@@ -23,3 +23,5 @@ pub mod NamedLogs
 pub mod EndingLaws
 pub mod CourseLaws
 pub mod IntoLaws
+pub mod MetLaws
+pub mod MetSections

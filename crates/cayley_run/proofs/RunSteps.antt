@@ -86,6 +86,13 @@ module _ (options : Options) (p : Program) (d : ℕ) (rank : p.rank ≡ d) (log 
   later_there =
       subst (λ (ns : List ℕ). drop k ns ≡ step ∷ drop (k + 1) ns) same_steps (drop_more later k 0 step_below)
 
+  -- it comes first
+  pub next_there : zip (drop k p.instrs) (drop k p.steps)
+      ≡ (instr, step) ∷ zip (drop (k + 1) p.instrs) (drop (k + 1) p.steps)
+  next_there =
+      ap (λ (xs : List Instr). zip xs (drop k p.steps)) instr_there
+      ∙ ap (λ (ns : List ℕ). zip (instr ∷ drop (k + 1) p.instrs) ns) later_there
+
   there : IsRunFrom options p log steps (instr ∷ drop (k + 1) p.instrs) (step ∷ drop (k + 1) p.steps)
   there =
       subst (λ xs. IsRunFrom options p log steps xs (step ∷ drop (k + 1) p.steps)) instr_there

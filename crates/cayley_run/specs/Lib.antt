@@ -12,3 +12,4 @@ pub mod Written
 pub mod Failures
 pub mod Endings
 pub mod Courses
+pub mod MetKeys

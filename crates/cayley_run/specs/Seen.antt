@@ -1,11 +1,12 @@
 -- What the code keeps of a run, as the definitions say it.
-use Rattle.std.specs.Prelude.{◌≡◌, ℕ, List, ◌++◌, map, length}
+use Rattle.std.specs.Prelude.{◌≡◌, ℕ, List, ◌++◌, map, flat_map, length, Some, None}
 use Rattle.std.specs.Option.{option_map}
-use Rattle.coordinate_model.specs.Syzygy.{Use}
+use Rattle.coordinate_model.specs.Syzygy.{Use, additions}
 use Rattle.bracket_terms.specs.declared.extensor.Extensor.{Extensor}
 use Rattle.bracket_terms.specs.Joins.{points_of}
 use Rattle.bracket_terms.specs.LogUses.{use_of}
 use Rattle.bracket_poly.specs.Kept.{TrackedOf}
+use Rattle.bracket_poly.specs.Tracked.{Tracked, plus_terms}
 use Rattle.bracket_poly.specs.Values.{value_of}
 use Rattle.bracket_poly.specs.declared.value.Value.{Value}
 use Rattle.bracket_poly.specs.Sections.{rewritten_of, worked_of}
@@ -13,6 +14,7 @@ use Rattle.shuffle_meet.specs.Stops.{Start}
 use Rattle.straightening.specs.Runs.{Run}
 use Rattle.cayley_run.specs.Results.{stop_of}
 use Rattle.cayley_run.specs.Sections as spec
+use Rattle.cayley_run.specs.MetKeys.{AllHaveMet}
 use Rattle.cayley_run.specs.Runs.{Log}
 use Rattle.cayley_run.specs.declared.sections.Sections.{Sections}
 use Rattle.cayley_run.specs.declared.rewriting.Rewriting.{Rewriting}
@@ -48,6 +50,14 @@ pub record IsBehind {d : ℕ} (r turned : Rewriting d) (passes : List Use) : Typ
   pub end : r.end ≡ turned.end
   pub stop : r.stop ≡ turned.stop
 
+-- a rewriting that has an end: it is this polynomial with the terms of the uses added one after another, with the keys
+-- that so are met
+abbrev pub RewritesSo : {d : ℕ} → Tracked → Rewriting d → Type 0
+RewritesSo p r = elim r.end [
+  | None ↦ Unit {0}
+  | Some end ↦ end.tracked ≡ plus_terms p (flat_map additions (map use_of r.uses))
+]
+
 -- a run of the code
 abbrev pub log_of : {d : ℕ} → Progress d → Log
 log_of p = record {
@@ -65,3 +75,8 @@ steps_in vs = map (λ v. v.step) vs
 -- the steps of a run's values
 abbrev pub steps_of : {d : ℕ} → Progress d → List ℕ
 steps_of p = steps_in p.values.items
+
+-- with objects of these starts more
+abbrev pub MeetsMore : {d : ℕ} → Progress d → Progress d → List (List Start) → Type 0
+MeetsMore old new more =
+    (starts : List (List Start)) → AllHaveMet old.objects.items starts → AllHaveMet new.objects.items (starts ++ more)

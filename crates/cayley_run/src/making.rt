@@ -8,6 +8,7 @@ ghost use Rattle.bracket_poly.specs.Values.{value_of};
 ghost use Rattle.conic_points.specs.Points.{values_of};
 ghost use Rattle.shuffle_meet.specs.Seen.{seen};
 ghost use Rattle.cayley_run.specs.Making.{AddsConic, AddsMade, AddsProducts, AreStarts, CanGoOn};
+ghost use Rattle.cayley_run.specs.Making.{MakesClaim, MakesProducts, MakesStarts};
 ghost use Rattle.cayley_run.specs.Ready.{AreSmall, IsConic, IsReady};
 ghost use Rattle.cayley_run.specs.Results.{IsKindOf};
 ghost use Rattle.cayley_run.specs.Seen.{starts_of, steps_in};
@@ -43,6 +44,7 @@ pub(crate) fn make<const D: usize>(
     requires rank { IsRank D }
     requires ready { IsReady D (steps_in values.now) (values_of values.now) instr step }
     ensures adds { IfOk result (AddsMade (values_of values.now) instr step) }
+    ensures starts { IfOk result (MakesStarts (values_of values.now) instr step) }
     ensures goes_on { IfOk result (CanGoOn step) }
 {
     match instr {
@@ -81,6 +83,7 @@ fn object<const D: usize>(
     requires step { IfOk starts (λ value. value.step ≡ step) }
     requires small { IfOk starts (λ value. AreSmall (seen value.entries)) }
     ensures adds { IfOk result (AddsProducts step starts.entry) }
+    ensures starts { IfOk result (MakesProducts step starts.entry) }
     ensures goes_on { IfOk result (CanGoOn step) }
 {
     match starts {
@@ -104,6 +107,7 @@ fn claim<const D: usize>(
     requires points { IsConic D (steps_in values.now) (values_of values.now) numbers.now step }
     requires small { AllByRecursion (λ v. AllByRecursion (λ e. HasDegree 1000 e.1) v) (values_of values.now) }
     ensures adds { IfOk result (AddsConic (values_of values.now) numbers.now step) }
+    ensures starts { IfOk result (MakesClaim (values_of values.now) numbers.now) }
     ensures goes_on { IfOk result (CanGoOn step) }
 {
     let six = copies(alloc, values, numbers)?;

@@ -1,11 +1,13 @@
 //! How far a run has come.
 
-ghost use Rattle.std.specs.Prelude.{◌≡◌, ◌≤◌, ◌+◌, ◌^◌, ◌<◌, [], ◌∷◌, ◌++◌, length, OnOk};
+ghost use Rattle.std.specs.Prelude.{◌≡◌, ◌≤◌, ◌+◌, ◌^◌, ◌<◌, List, [], ◌∷◌, ◌++◌, length, OnOk};
 ghost use Rattle.coordinate_model.specs.Sequences.{IsRank};
+ghost use Rattle.shuffle_meet.specs.Stops.{Start};
+ghost use Rattle.cayley_run.specs.MetKeys.{HaveMet, instr_starts};
 ghost use Rattle.cayley_run.specs.Ready.{IsReady, AreSections};
 ghost use Rattle.cayley_run.specs.Results.{stop_of};
 ghost use Rattle.cayley_run.specs.Runs.{at_start, with_instr, with_stop, with_sections};
-ghost use Rattle.cayley_run.specs.Seen.{log_of, steps_of, sections_of};
+ghost use Rattle.cayley_run.specs.Seen.{log_of, steps_of, sections_of, MeetsMore};
 
 use crate::answer::{Options, StopKind};
 use crate::making::{Made, make};
@@ -50,6 +52,8 @@ impl<const D: usize> Progress<D> {
         requires few { length (log_of self.old).objects + 1 < 2 ^ 32 }
         ensures log { OnOk result (log_of self.new ≡ with_instr D (log_of self.old) (instr, step)) }
         ensures steps { OnOk result (steps_of self.new ≡ steps_of self.old ++ step ∷ []) }
+        ensures met { OnOk result (MeetsMore self.old self.new
+            (instr_starts D (log_of self.old).values (instr, step))) }
     {
         match make(self.alloc, &self.values, instr, step)? {
             Made::Point(value) => Ok(self.values.push(value)?),
@@ -69,6 +73,7 @@ impl<const D: usize> Progress<D> {
         requires few { length (log_of self.old).objects + 1 < 2 ^ 32 }
         ensures log { OnOk result (log_of self.new ≡ with_stop step (stop_of kind) (log_of self.old)) }
         ensures steps { OnOk result (steps_of self.new ≡ steps_of self.old ++ step ∷ []) }
+        ensures met { OnOk result (MeetsMore self.old self.new ([] ∷ [])) }
     {
         let sections = Sections {
             sections: Vec::new(self.alloc),
@@ -86,6 +91,8 @@ impl<const D: usize> Progress<D> {
         requires sections { AreSections D step (sections_of done).sections }
         ensures log { OnOk result (log_of self.new ≡ with_sections step (log_of self.old) (sections_of done.entry)) }
         ensures steps { OnOk result (steps_of self.new ≡ steps_of self.old ++ step ∷ []) }
+        ensures met { (starts : List Start) → HaveMet done.entry.sections.items starts
+            → OnOk result (MeetsMore self.old self.new (starts ∷ [])) }
     {
         let Sections {
             sections,

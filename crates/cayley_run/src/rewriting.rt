@@ -5,7 +5,7 @@ ghost use Rattle.bracket_poly.specs.Products.{HasDegree};
 ghost use Rattle.bracket_terms.specs.LogUses.{use_of};
 ghost use Rattle.straightening.specs.Runs.{run};
 ghost use Rattle.cayley_run.specs.Sections.{work};
-ghost use Rattle.cayley_run.specs.Seen.{IsRewriting, IsBehind};
+ghost use Rattle.cayley_run.specs.Seen.{IsRewriting, IsBehind, RewritesSo};
 
 use crate::answer::StopKind;
 use bracket_poly::{Items, Poly};
@@ -13,7 +13,7 @@ use bracket_terms::LogUse;
 use cay_base::NoMemory;
 use contraction::ContractError;
 use std::alloc::Global;
-use straightening::{Partial, StopError, Straight, straighten};
+use straightening::{Partial, StopError, Straight, straighten_from};
 
 /// How one polynomial was rewritten.
 #[derive(Drop)]
@@ -34,13 +34,14 @@ pub(crate) fn rewrite<const D: usize>(
     start: &Poly<D>,
 ) -> Result<Rewriting<D>, NoMemory>
     requires { HasDegree 1000 start.now.tracked.sum }
-    ensures { IfOk result (λ r. IsRewriting r (work contract budget start.now.tracked).passes.uses
+    ensures work { IfOk result (λ r. IsRewriting r (work contract budget start.now.tracked).passes.uses
         (work contract budget start.now.tracked).turns) }
+    ensures met { IfOk result (RewritesSo start.now.tracked) }
 {
     if contract {
         contracted(alloc, budget, start.copy()?)
     } else {
-        straightened(alloc, budget, start.copy()?)
+        straightened(alloc, budget, start)
     }
 }
 
@@ -51,12 +52,13 @@ fn contracted<const D: usize>(
     start: Poly<D>,
 ) -> Result<Rewriting<D>, NoMemory>
     requires { HasDegree 1000 start.tracked.sum }
-    ensures { IfOk result (λ r. IsRewriting r (work true budget start.entry.tracked).passes.uses
+    ensures work { IfOk result (λ r. IsRewriting r (work true budget start.entry.tracked).passes.uses
         (work true budget start.entry.tracked).turns) }
+    ensures met { IfOk result (RewritesSo start.entry.tracked) }
 {
     match contraction::contract(alloc, start) {
         Ok(done) => {
-            let turned = straightened(alloc, budget, done.poly)?;
+            let turned = straightened(alloc, budget, &done.poly)?;
             behind(alloc, done.uses, turned)
         }
         Err(ContractError::Coefficient(done)) => Ok(stopped(done, StopKind::Coefficient)),
@@ -69,12 +71,13 @@ fn contracted<const D: usize>(
 fn straightened<const D: usize>(
     alloc: Global,
     budget: u64,
-    start: Poly<D>,
+    start: &Poly<D>,
 ) -> Result<Rewriting<D>, NoMemory>
-    requires { HasDegree 1000 start.tracked.sum }
-    ensures { IfOk result (λ r. IsRewriting r [] (run budget start.entry.tracked)) }
+    requires { HasDegree 1000 start.now.tracked.sum }
+    ensures run { IfOk result (λ r. IsRewriting r [] (run budget start.now.tracked)) }
+    ensures met { IfOk result (RewritesSo start.now.tracked) }
 {
-    match straighten(alloc, start, budget) {
+    match straighten_from(alloc, start, budget) {
         Ok(
             Straight {
                 normal,

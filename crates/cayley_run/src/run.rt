@@ -3,6 +3,7 @@
 ghost use Rattle.std.specs.Prelude.{◌≡◌};
 ghost use Rattle.coordinate_model.specs.Sequences.{IsRank};
 ghost use Rattle.cayley_run.specs.Bounds.{IsWithinProgram};
+ghost use Rattle.cayley_run.specs.MetKeys.{AnswersMet, starts_of_run};
 ghost use Rattle.cayley_run.specs.Runs.{run_of};
 ghost use Rattle.cayley_run.specs.RunLaws.{MeansProgram};
 ghost use Rattle.cayley_run.specs.Results.{AnswersLog};
@@ -25,6 +26,7 @@ pub fn run_sections<const D: usize>(
 ) -> Result<Vec<ObjectLog<D>>, RunError<D>>
     requires rank { program.now.rank ≡ D }
     ensures run { AnswersLog result (run_of options program.now) }
+    ensures met { AnswersMet result (starts_of_run options program.now) }
     ensures means { MeansProgram program.now (run_of options program.now) }
     ensures within { IsWithinProgram program.now (run_of options program.now) }
     ensures turns { TakesFewTurns program.now.rank options (run_of options program.now) }

@@ -2,6 +2,7 @@
 
 ghost use Rattle.std.specs.Prelude.{◌≡◌, IfOk};
 ghost use Rattle.coordinate_model.specs.Sequences.{IsRank};
+ghost use Rattle.cayley_run.specs.MetKeys.{HaveMet};
 ghost use Rattle.cayley_run.specs.Ready.{AreSmall};
 ghost use Rattle.cayley_run.specs.Sections.{run_starts};
 ghost use Rattle.cayley_run.specs.Seen.{sections_of, starts_of};
@@ -30,7 +31,9 @@ pub(crate) fn run_starts<const D: usize>(
 ) -> Result<Sections<D>, NoMemory>
     requires rank { IsRank D }
     requires small { AreSmall (starts_of starts.now) }
-    ensures { IfOk result (λ sections. sections_of sections ≡ run_starts contract budget (starts_of starts.now)) }
+    ensures sections { IfOk result (λ sections. sections_of sections
+        ≡ run_starts contract budget (starts_of starts.now)) }
+    ensures met { IfOk result (λ sections. HaveMet sections.sections.items (starts_of starts.now)) }
 {
     let mut done = Sections {
         sections: Vec::new(alloc),

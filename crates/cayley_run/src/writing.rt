@@ -89,7 +89,7 @@ fn write_start<const D: usize, K: Sink>(
     ending.stop = rewriting.stop;
     let section = section_of(start, rewriting)?;
     put_section(alloc, names, &section, sink)?;
-    Ok(keep_end(&mut ending.entries, section)?)
+    Ok(keep_end(alloc, &mut ending.entries, &section)?)
 }
 
 /// The section of a start that was rewritten so.
@@ -124,25 +124,33 @@ fn put_section<const D: usize, K: Sink>(
     write_section(alloc, names, section, sink)
 }
 
-/// Keeps the end of a section, where that has a term.
+/// Keeps the terms of a section's end, where it has one.
 fn keep_end<const D: usize>(
+    alloc: Global,
     entries: &mut Vec<(Extensor, Poly<D>)>,
-    section: Section<D>,
+    section: &Section<D>,
 ) -> Result<(), NoMemory>
+    requires { IsRank D }
     ensures { OnOk result (value_of entries.new.items
-        ≡ value_of entries.old.items ++ cons_option (entry_from (rewritten_of section.entry)) []) }
+        ≡ value_of entries.old.items ++ cons_option (entry_from (rewritten_of section.now)) []) }
 {
-    let Section {
-        scalar,
-        start: _start,
-        uses: _uses,
-        end,
-    } = section;
-    let Some(end) = end else {
+    let Some(end) = &section.end else {
         return Ok(());
     };
     if end.len() == 0 {
         return Ok(());
     }
-    Ok(entries.push((scalar, end))?)
+    Ok(entries.push((section.scalar, terms_of(alloc, end)?))?)
+}
+
+/// The terms of a polynomial alone: it forgets the other keys that it has met, of which a long run leaves many.
+fn terms_of<const D: usize>(alloc: Global, polynomial: &Poly<D>) -> Result<Poly<D>, NoMemory>
+    requires { IsRank D }
+    ensures { IfOk result (λ terms. terms.tracked.sum ≡ polynomial.now.tracked.sum) }
+{
+    let mut terms = Poly::new(alloc);
+    match terms.add_terms(polynomial) {
+        Ok(()) => Ok(terms),
+        Err(_) => Err(NoMemory),
+    }
 }

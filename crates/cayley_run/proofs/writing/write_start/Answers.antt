@@ -10,7 +10,7 @@ use Rattle.cayley_run.proofs.writing.write_start.Goals as goal
 
 pub overflow_sub-ending : goal.overflow_sub-ending
 overflow_sub-ending g c =
-    subst (λ (n : ℕ). n ≤ c.args.ending.now.left) (sym c.in_ok-rewriting.ensures.turns)
+    subst (λ (n : ℕ). n ≤ c.args.ending.now.left) (sym c.in_ok-rewriting.ensures.work.turns)
     (work_within c.args.contract c.args.ending.now.left c.args.start.now.1.tracked)
 
 pub returns-in_err-section-clause-writes : goal.returns-in_err-section-clause-writes
@@ -20,7 +20,7 @@ pub returns-in_err-put_section-clause-writes : goal.returns-in_err-put_section-c
 returns-in_err-put_section-clause-writes g c =
     let said =
     section_said c.args.start.now c.in_ok-section.section c.in_ok-rewriting.rewriting
-    (work c.args.contract c.args.ending.now.left c.args.start.now.1.tracked) c.in_ok-rewriting.ensures
+    (work c.args.contract c.args.ending.now.left c.args.start.now.1.tracked) c.in_ok-rewriting.ensures.work
     c.in_ok-section.ensures.scalar c.in_ok-section.ensures.start c.in_ok-section.ensures.uses
     c.in_ok-section.ensures.end in
     same_lines _ _ _ _ _ _ _ (append-nil _ ∙ ap (section_lines c.args.names.now) said)
@@ -30,7 +30,7 @@ pub returns-in_err-keep_end-clause-writes : goal.returns-in_err-keep_end-clause-
 returns-in_err-keep_end-clause-writes g c =
     let said =
     section_said c.args.start.now c.in_ok-section.section c.in_ok-rewriting.rewriting
-    (work c.args.contract c.args.ending.now.left c.args.start.now.1.tracked) c.in_ok-rewriting.ensures
+    (work c.args.contract c.args.ending.now.left c.args.start.now.1.tracked) c.in_ok-rewriting.ensures.work
     c.in_ok-section.ensures.scalar c.in_ok-section.ensures.start c.in_ok-section.ensures.uses
     c.in_ok-section.ensures.end in
     writes_then_none _ _ _ _ _ _

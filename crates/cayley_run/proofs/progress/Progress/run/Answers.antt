@@ -13,7 +13,7 @@ finish-requires g c =
     subst (λ (m : Made g.row.D). CanGoOn c.args.step m) c.in-Starts.is c.in_ok-value.ensures.goes_on in
     let made : sections_of {d = g.row.D} c.in_ok-sections-in-Starts.sections
     ≡ run_starts c.args.self.now.options.contract c.args.self.now.left (starts_of {d = g.row.D} c.in-Starts.starts) =
-    c.in_ok-sections-in-Starts.ensures
+    c.in_ok-sections-in-Starts.ensures.sections
     ∙ ap (λ es. run_starts c.args.self.now.options.contract c.args.self.now.left (starts_of {d = g.row.D} es))
     c.items.ensures in (
       search rules,
