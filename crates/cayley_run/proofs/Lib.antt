@@ -3,6 +3,7 @@ pub mod WorkLaws
 pub mod RewritingLaws
 pub mod SectionLaws
 pub mod ObjectLaws
+pub mod ObjectRuns
 pub mod ConicStarts
 pub mod InstrLaws
 pub mod RunMeaning

@@ -1,5 +1,6 @@
 pub mod Sections
 pub mod Runs
+pub mod Objects
 pub mod RunLaws
 pub mod Bounds
 pub mod TurnBounds

@@ -1,6 +1,7 @@
 //! The laws of runs. Each function does nothing; its clauses are the laws.
 ghost use Rattle.cayley_run.specs.Alike.{RunsEndAlike};
 ghost use Rattle.cayley_run.specs.Bounds.{RunIsWithin};
+ghost use Rattle.cayley_run.specs.Objects.{NextIsByItself, RunIsByObjects};
 ghost use Rattle.cayley_run.specs.RunLaws.{RunMeans};
 ghost use Rattle.cayley_run.specs.TurnBounds.{RunTakesFewTurns};
 
@@ -15,4 +16,11 @@ pub fn runs()
     ensures within { RunIsWithin }
     ensures turns { RunTakesFewTurns }
     ensures alike { RunsEndAlike }
+{}
+
+/// Each instruction of a run is run by itself, from the values of the earlier ones, with the turns that they have left. So the
+/// run of a program is that of its objects one after another.
+pub fn objects()
+    ensures next { NextIsByItself }
+    ensures all { RunIsByObjects }
 {}
