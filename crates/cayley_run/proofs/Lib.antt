@@ -7,6 +7,7 @@ pub mod ObjectRuns
 pub mod ConicStarts
 pub mod InstrLaws
 pub mod RunMeaning
+pub mod ObjectMeaning
 pub mod KeyBounds
 pub mod SectionBounds
 pub mod RunBounds

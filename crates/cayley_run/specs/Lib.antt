@@ -2,6 +2,7 @@ pub mod Sections
 pub mod Runs
 pub mod Objects
 pub mod RunLaws
+pub mod ObjectMeaning
 pub mod Bounds
 pub mod TurnBounds
 pub mod Alike

@@ -1,6 +1,7 @@
 //! The laws of runs. Each function does nothing; its clauses are the laws.
 ghost use Rattle.cayley_run.specs.Alike.{RunsEndAlike};
 ghost use Rattle.cayley_run.specs.Bounds.{RunIsWithin};
+ghost use Rattle.cayley_run.specs.ObjectMeaning.{ObjectMeans};
 ghost use Rattle.cayley_run.specs.Objects.{NextIsByItself, RunIsByObjects};
 ghost use Rattle.cayley_run.specs.RunLaws.{RunMeans};
 ghost use Rattle.cayley_run.specs.TurnBounds.{RunTakesFewTurns};
@@ -18,9 +19,12 @@ pub fn runs()
     ensures alike { RunsEndAlike }
 {}
 
-/// Each instruction of a run is run by itself, from the values of the earlier ones, with the turns that they have left. So the
-/// run of a program is that of its objects one after another.
+/// Each instruction of a run is run by itself, from the values of the earlier ones, with the turns that they have left.
+/// So the run of a program is that of its objects one after another. From values that have the coordinates of the
+/// objects of the first instructions, and with any options, the run of the next object ends each section with a normal
+/// polynomial that has the value of its start, and where nothing stopped it, its value has the coordinates of the object.
 pub fn objects()
     ensures next { NextIsByItself }
     ensures all { RunIsByObjects }
+    ensures means { ObjectMeans }
 {}
