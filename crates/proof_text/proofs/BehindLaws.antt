@@ -1,5 +1,5 @@
 -- What comes behind all others of an ascending list.
-use Rattle.std.proofs.Common.{◌≡◌, ℕ, ◌+◌, Bool, true, false, T, List, [], ◌∷◌, ◌++◌, length, map, refl, sym, ap, subst, ◌∙◌, ℤ, inl, inr}
+use Rattle.std.proofs.Common.{◌≡◌, ℕ, Bool, true, false, T, List, [], ◌∷◌, ◌++◌, map, refl, sym, ap, subst, ◌∙◌, ℤ, inl, inr}
 use Rattle.std.specs.FinMap.{is_sorted}
 use Rattle.std.specs.FinMap.Entries.{below_all}
 use Rattle.std.specs.List.{AllByRecursion}
@@ -8,8 +8,8 @@ use Rattle.std.proofs.lemmas.Bool.{cases_Bool}
 use Rattle.std.specs.Cmp.Lexicographic.{nat_list_cmp_total}
 use Rattle.std.specs.Ordering.{is_lt, ordering_reverse}
 use Rattle.std.specs.declared.cmp.Ordering.{Ordering}
-use Rattle.std.specs.declared.cmp.Ordering.TheVariants.{Less, Equal, Greater}
-use Rattle.coordinate_model.specs.Sums.{Terms, is_zero, has_no_zero, keep, add_term, collect, sum_of}
+use Rattle.std.specs.declared.cmp.Ordering.TheVariants.{Less, Greater}
+use Rattle.coordinate_model.specs.Sums.{Terms, is_zero, has_no_zero, add_term, collect}
 use Rattle.coordinate_model.specs.Code.{same_list_of_terms}
 use Rattle.coordinate_model.specs.Key.{Key, key_cmp, row_cmp}
 use Rattle.coordinate_model.specs.BracketPolynomial.{BracketPolynomial}

@@ -1,6 +1,6 @@
 -- What holds of what has been read: it lies within the limits, and its lines are those of its text so far.
-use Rattle.std.proofs.Common.{◌≡◌, ℕ, suc, ◌+◌, ◌<◌, ◌≤◌, Bool, true, false, T, List, [], ◌∷◌, ◌++◌, length, map, take, refl, sym, ap, subst, ◌∙◌, arith, append_assoc, append-nil, codes}
-use Rattle.std.specs.Prelude.{decimal, flat_map, slice_index, Some, None, ℤ}
+use Rattle.std.proofs.Common.{◌≡◌, ℕ, ◌+◌, ◌<◌, true, List, [], ◌∷◌, ◌++◌, length, map, take, refl, sym, ap, subst, ◌∙◌, arith, append_assoc, append-nil, codes}
+use Rattle.std.specs.Prelude.{decimal, flat_map, slice_index, Some, ℤ}
 use Rattle.std.specs.List.{AllByRecursion}
 use Rattle.std.proofs.lemmas.List.Concat.{flat_map-append}
 use Rattle.coordinate_model.specs.Sums.{empty}
@@ -11,10 +11,10 @@ use Rattle.bracket_poly.specs.Values.{extensor_size}
 use Rattle.step_types.specs.declared.names.Names.{Names}
 use Rattle.proof_text.specs.Lines.{spaced}
 use Rattle.proof_text.specs.Terms.{point_names, term_words, terms_lines, polynomial_lines}
-use Rattle.proof_text.specs.Proofs.{use_line, end_lines, section_lines, object_lines, head_lines}
-use Rattle.proof_text.specs.Forms.{Part, PlainForm, form_line, verdict_word}
-use Rattle.proof_text.specs.Told.{Told, proof_lines, AreBelow, IsSumTold, IsUseTold, IsSectionTold, IsObjectTold, AreObjectsTold, IsProof}
-use Rattle.proof_text.specs.State.{Place, State, begun, with_part, with_end, ended_at, told}
+use Rattle.proof_text.specs.Proofs.{use_line, section_lines, object_lines, head_lines}
+use Rattle.proof_text.specs.Forms.{Part}
+use Rattle.proof_text.specs.Told.{proof_lines, AreBelow, IsSumTold, IsUseTold, IsSectionTold, IsObjectTold, AreObjectsTold, IsProof}
+use Rattle.proof_text.specs.State.{Place, State, with_part, with_end, ended_at, told}
 use Rattle.proof_text.specs.Kinds.{is_behind_sections}
 use Rattle.proof_text.proofs.BehindLaws.{section_last}
 

@@ -1,7 +1,6 @@
 -- Coefficients and exponents: what is read is written again, and what is written is read again.
-use Rattle.std.proofs.Common.{◌≡◌, ◌≢◌, ℕ, zero, suc, ◌+◌, ◌-◌, ◌*◌, ◌/◌, ◌%◌, ◌^◌, ◌<◌, ◌≤◌, Bool, true, false, not, List, [], ◌∷◌, ◌++◌, length, length-append, get_or, refl, sym, ap, subst, ◌∙◌, arith, codes, inl, inr, ℤ, pos, negsuc, add-one}
-use Rattle.std.specs.Prelude.{decimal, ◌==◌, ◌&&◌, nat_lt, nat_le, neg_ℤ, unsigned_abs, if◌then◌else◌}
-use Rattle.std.specs.Str.Parse.{digits_value}
+use Rattle.std.proofs.Common.{◌≡◌, ℕ, zero, suc, ◌+◌, ◌-◌, ◌%◌, ◌^◌, ◌<◌, ◌≤◌, Bool, true, false, not, List, [], ◌∷◌, ◌++◌, length, length-append, get_or, refl, sym, ap, ◌∙◌, arith, codes, ℤ, pos, negsuc, add-one}
+use Rattle.std.specs.Prelude.{decimal, ◌==◌, ◌&&◌, nat_le, neg_ℤ, if◌then◌else◌}
 use Rattle.std.proofs.lemmas.Bool.{ltb-true, lt-ltb, leb-true, le-leb, eq-eqb, ne_eqb, not-true}
 use Rattle.std.proofs.lemmas.Fmt.{decimal_digit, decimal_is_IsNumeral_wide, decimal_by_steps_wide}
 use Rattle.std.proofs.Math.ListN.{get_or-append}

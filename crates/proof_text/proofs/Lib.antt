@@ -6,6 +6,7 @@ pub mod FormSteps
 pub mod LineSteps
 pub mod KindSteps
 pub mod FormLaws
+pub mod RowSteps
 pub mod FormSound
 pub mod DecimalLaws
 pub mod FormAgain

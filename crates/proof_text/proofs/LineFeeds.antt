@@ -1,13 +1,13 @@
 -- Lines of forms have no LF, so their text is cut into them again.
-use Rattle.std.proofs.Common.{◌≡◌, ℕ, ◌+◌, ◌<◌, ◌≤◌, Bool, true, false, not, List, [], ◌∷◌, ◌++◌, length, map, refl, sym, ap, ◌∙◌, append_assoc, arith, codes, inl, inr}
-use Rattle.std.specs.Prelude.{◌==◌, ◌&&◌, if◌then◌else◌}
+use Rattle.std.proofs.Common.{◌≡◌, ℕ, Bool, true, false, not, List, [], ◌∷◌, ◌++◌, map, refl, ap, ◌∙◌, append_assoc, arith, codes}
+use Rattle.std.specs.Prelude.{◌==◌}
 use Rattle.std.specs.List.{list_all, AllByRecursion}
 use Rattle.std.proofs.lemmas.Bool.{not-true}
 use Rattle.std.proofs.lemmas.List.Folds.{list_all-append}
 use Rattle.proof_text.specs.Cut.{Line, cut, onto_first}
 use Rattle.proof_text.specs.Lines.{text_of, behind_spaces, spaced}
-use Rattle.proof_text.specs.Numbers.{is_digit, is_number, is_run}
-use Rattle.proof_text.specs.Forms.{Part, Power, Spelt, Form, PlainForm, signed_word, power_word, row_word, spelt_words, form_words, form_line, verdict_word, IsPower, AreRuns, IsRowOf, IsSpelt, IsForm}
+use Rattle.proof_text.specs.Numbers.{is_number, is_run}
+use Rattle.proof_text.specs.Forms.{Part, Power, Spelt, Form, PlainForm, signed_word, power_word, row_word, spelt_words, form_words, form_line, IsPower, AreRuns, IsRowOf, IsSpelt, IsForm}
 use Rattle.proof_text.proofs.NumberLaws.{and_true, some_digits}
 use Rattle.proof_text.proofs.FormAgain.{lacks, lacks-append, digits_lack, runs_lack}
 

@@ -1,27 +1,26 @@
 -- With any line that has no fault what is read stays good.
-use Rattle.std.proofs.Common.{◌≡◌, ℕ, suc, ◌+◌, ◌<◌, ◌≤◌, Bool, true, false, not, List, [], ◌∷◌, ◌++◌, length, length-append, map, take, refl, sym, ap, subst, ◌∙◌, arith, append_assoc, append-nil, codes, ℤ}
-use Rattle.std.specs.Prelude.{flat_map, slice_index, nat_lt, ◌==◌, ◌&&◌, if◌then◌else◌}
-use Rattle.std.specs.List.{AllByRecursion}
+use Rattle.std.proofs.Common.{◌≡◌, ℕ, ◌<◌, ◌≤◌, Bool, true, false, not, List, [], ◌∷◌, ◌++◌, length, length-append, map, refl, sym, ap, subst, ◌∙◌, arith, append_assoc, append-nil, codes}
+use Rattle.std.specs.Prelude.{flat_map, nat_lt, if◌then◌else◌}
 use Rattle.std.proofs.lemmas.Bool.{ltb-true, ltb-false}
 use Rattle.std.proofs.lemmas.List.{map_push, take_all}
-use Rattle.coordinate_model.specs.Sums.{is_zero, empty}
-use Rattle.coordinate_model.specs.Key.{Key, key_cmp}
+use Rattle.coordinate_model.specs.Sums.{empty}
+use Rattle.coordinate_model.specs.Key.{key_cmp}
 use Rattle.coordinate_model.specs.BracketPolynomial.{BracketPolynomial}
 use Rattle.bracket_poly.specs.Sections.{Rewritten, Worked}
-use Rattle.bracket_poly.specs.Tracked.{fits, met_limit}
+use Rattle.bracket_poly.specs.Tracked.{met_limit}
 use Rattle.step_types.specs.declared.names.Names.{Names}
 use Rattle.proof_text.specs.Lines.{spaced}
 use Rattle.proof_text.specs.Forms.{Part, Spelt, Form, PlainForm, form_line, verdict_word}
 use Rattle.proof_text.specs.Meant.{term_meant, is_ordered}
-use Rattle.proof_text.specs.Terms.{term_words, polynomial_lines}
+use Rattle.proof_text.specs.Terms.{polynomial_lines}
 use Rattle.proof_text.specs.Proofs.{use_line, object_lines, head_lines}
 use Rattle.proof_text.specs.Kinds.{is_behind_terms, is_decided}
 use Rattle.proof_text.specs.Told.{is_zero_end, IsSumTold, AreObjectsTold, IsDecided, IsLastDecided}
-use Rattle.proof_text.specs.State.{Place, State, begun, may_stand, has_room, takes, moved, with_term, after}
+use Rattle.proof_text.specs.State.{Place, State, begun, has_room, takes, with_term}
 use Rattle.proof_text.proofs.FormLaws.{not_false}
 use Rattle.proof_text.proofs.NumberLaws.{and_true}
 use Rattle.proof_text.proofs.BehindLaws.{term_last}
-use Rattle.proof_text.proofs.TermLaws.{IsTermRead, term_read}
+use Rattle.proof_text.proofs.TermLaws.{term_read}
 use Rattle.proof_text.proofs.GoodStates as good
 use Rattle.proof_text.proofs.MoveLaws as move
 

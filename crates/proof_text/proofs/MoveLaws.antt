@@ -1,15 +1,15 @@
 -- With a line that has no fault what is read stays good, and its lines have this one more.
-use Rattle.std.proofs.Common.{◌≡◌, ℕ, zero, suc, ◌+◌, ◌^◌, ◌<◌, ◌≤◌, Bool, true, false, not, List, [], ◌∷◌, ◌++◌, length, length-append, map, take, refl, sym, ap, subst, ◌∙◌, arith, append_assoc, append-nil, codes, inl, inr, ℤ}
-use Rattle.std.specs.Prelude.{decimal, flat_map, slice_index, nat_lt, ◌==◌, ◌&&◌, ◌||◌, if◌then◌else◌}
+use Rattle.std.proofs.Common.{◌≡◌, ℕ, zero, suc, ◌+◌, ◌^◌, ◌<◌, ◌≤◌, Bool, true, false, List, [], ◌∷◌, ◌++◌, length, length-append, map, take, refl, sym, ap, subst, ◌∙◌, arith, append_assoc, append-nil, codes, ℤ}
+use Rattle.std.specs.Prelude.{decimal, flat_map, slice_index, nat_lt, ◌==◌, ◌&&◌, ◌||◌}
 use Rattle.std.specs.List.{AllByRecursion, list_all}
-use Rattle.std.proofs.lemmas.Bool.{ltb-true, ltb-false, eqb-true, ne_eqb, not-true}
-use Rattle.std.proofs.lemmas.List.{map_push, take_all}
+use Rattle.std.proofs.lemmas.Bool.{ltb-true, eqb-true, ne_eqb}
+use Rattle.std.proofs.lemmas.List.{map_push}
 use Rattle.std.proofs.lemmas.List.Concat.{flat_map-append}
 use Rattle.coordinate_model.specs.Sequences.{IsRank}
-use Rattle.coordinate_model.specs.Sums.{Terms, is_zero, empty}
-use Rattle.coordinate_model.specs.Key.{Key, key_cmp}
+use Rattle.coordinate_model.specs.Sums.{Terms, is_zero}
+use Rattle.coordinate_model.specs.Key.{Key}
 use Rattle.coordinate_model.specs.BracketPolynomial.{BracketPolynomial}
-use Rattle.bracket_poly.specs.Sections.{Rewritten, Worked}
+use Rattle.bracket_poly.specs.Sections.{Worked}
 use Rattle.bracket_poly.specs.Tracked.{fits, met_limit}
 use Rattle.bracket_poly.specs.Values.{extensor_size}
 use Rattle.step_types.specs.declared.names.Names.{Names}
@@ -17,21 +17,20 @@ use Rattle.construction_reader.proofs.ObjectLaws.{is_same}
 use Rattle.construction_reader.specs.Words.{◌is◌}
 use Rattle.proof_text.specs.Lines.{spaced}
 use Rattle.proof_text.specs.Numbers.{is_number, is_padded, number_of, writes}
-use Rattle.proof_text.specs.Forms.{Part, Spelt, Form, PlainForm, row_word, form_words, form_line, verdict_word, IsRowOf, IsForm}
-use Rattle.proof_text.specs.Meant.{is_among, points_meant, term_meant, use_meant, is_rising, is_ordered}
-use Rattle.proof_text.specs.Terms.{point_names, term_words, polynomial_lines}
-use Rattle.proof_text.specs.Proofs.{use_line, section_lines, object_lines, head_lines}
-use Rattle.proof_text.specs.Kinds.{are_same, is_other_header, is_other_object, is_named, is_unnamed, is_numbered, is_misnumbered, is_behind_terms, is_behind_sections, is_disordered, is_decided, is_misjudged}
-use Rattle.proof_text.specs.Told.{proof_lines, is_zero_end, IsKeyTold, IsSumTold, IsUseTold, IsObjectTold, AreObjectsTold, IsDecided, IsLastDecided, IsProof}
-use Rattle.proof_text.specs.State.{Place, State, begun, may_stand, has_room, takes, moved, with_term, with_object, told}
-use Rattle.proof_text.specs.Outcome.{AreSteps}
+use Rattle.proof_text.specs.Forms.{Part, Spelt, Form, PlainForm, form_line, IsRowOf, IsForm}
+use Rattle.proof_text.specs.Meant.{is_among, points_meant, use_meant, is_rising}
+use Rattle.proof_text.specs.Terms.{polynomial_lines}
+use Rattle.proof_text.specs.Proofs.{use_line, object_lines, head_lines}
+use Rattle.proof_text.specs.Kinds.{are_same, is_other_header, is_other_object, is_named, is_unnamed, is_misnumbered, is_behind_terms, is_behind_sections, is_disordered, is_misjudged}
+use Rattle.proof_text.specs.Told.{IsKeyTold, IsSumTold, IsUseTold, IsObjectTold, AreObjectsTold}
+use Rattle.proof_text.specs.State.{Place, State, begun, may_stand, moved, with_term, with_object}
 use Rattle.proof_text.proofs.FormLaws.{not_false}
 use Rattle.proof_text.proofs.NumberLaws.{and_true}
 use Rattle.proof_text.proofs.DecimalLaws.{decimal_of_number}
-use Rattle.proof_text.proofs.NameLaws.{all_at, names_again, points_below, length-map}
+use Rattle.proof_text.proofs.NameLaws.{all_at, names_again, points_below}
 use Rattle.proof_text.proofs.OrderLaws.{rising_increases}
 use Rattle.proof_text.proofs.BehindLaws.{term_last}
-use Rattle.proof_text.proofs.TermLaws.{KnowsNames, term_read}
+use Rattle.proof_text.proofs.TermLaws.{KnowsNames}
 use Rattle.proof_text.proofs.UseLaws.{use_read}
 use Rattle.proof_text.proofs.GoodStates as good
 

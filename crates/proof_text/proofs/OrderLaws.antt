@@ -1,6 +1,6 @@
 -- The tests of orders, and the orders of the model.
-use Rattle.std.proofs.Common.{◌≡◌, ℕ, zero, suc, ◌+◌, ◌<◌, ◌≤◌, Bool, true, false, not, List, [], ◌∷◌, length, refl, sym, ap, subst, ◌∙◌, arith, suc-add, slice_index, get_or}
-use Rattle.std.specs.Prelude.{◌&&◌, nat_lt, IsSorted}
+use Rattle.std.proofs.Common.{◌≡◌, ℕ, zero, suc, ◌<◌, true, false, not, List, [], ◌∷◌, refl, sym, ap, subst, ◌∙◌, arith, suc-add, slice_index, get_or}
+use Rattle.std.specs.Prelude.{nat_lt, IsSorted}
 use Rattle.std.specs.declared.cmp.Ordering.{Ordering}
 use Rattle.std.specs.declared.cmp.Ordering.TheVariants.{Less, Equal, Greater}
 use Rattle.std.specs.Ordering.{is_lt, is_gt, ordering_reverse}

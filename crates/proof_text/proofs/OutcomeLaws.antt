@@ -1,5 +1,5 @@
 -- Bytes are the text of one proof or have one fault, and not both.
-use Rattle.std.proofs.Common.{◌≡◌, ℕ, List, Result, Ok, Err, sym, ◌∙◌, inl, inr, ◌⊎◌}
+use Rattle.std.proofs.Common.{◌≡◌, ℕ, List, Result, Ok, sym, ◌∙◌, inl, inr, ◌⊎◌}
 use Rattle.step_types.specs.declared.names.Names.{Names}
 use Rattle.proof_text.specs.declared.fault.ProofFault.{ProofFault}
 use Rattle.proof_text.specs.Told.{Told, TextOf}

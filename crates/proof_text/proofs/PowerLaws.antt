@@ -1,21 +1,21 @@
 -- Parameters with their exponents: what is read is written again, and what is written is read again.
-use Rattle.std.proofs.Common.{◌≡◌, ◌≢◌, ℕ, zero, suc, ◌+◌, ◌-◌, ◌^◌, ◌<◌, ◌≤◌, Bool, true, false, List, [], ◌∷◌, ◌++◌, length, length-append, map, get_or, replicate, drop, refl, sym, ap, subst, ◌∙◌, arith, codes, append_assoc, inl, inr, add-one, one-add}
-use Rattle.std.specs.Prelude.{decimal, ◌==◌, ◌&&◌, nat_lt, slice_index_or, slice_set, if◌then◌else◌}
-use Rattle.std.specs.List.{list_all, AllByRecursion, IsDistinct, position_or_len}
+use Rattle.std.proofs.Common.{◌≡◌, ℕ, zero, suc, ◌+◌, ◌<◌, ◌≤◌, true, false, List, [], ◌∷◌, ◌++◌, length, length-append, map, get_or, replicate, drop, refl, sym, ap, subst, ◌∙◌, arith, codes, append_assoc, inl, inr, one-add}
+use Rattle.std.specs.Prelude.{decimal, ◌==◌, nat_lt, slice_set, if◌then◌else◌}
+use Rattle.std.specs.List.{list_all, AllByRecursion, IsDistinct}
 use Rattle.std.proofs.lemmas.Bool.{cases_Bool, ltb-true, lt-ltb, ne_eqb, eqb-true}
 use Rattle.std.proofs.lemmas.List.{length-set, get_or-set_other}
 use Rattle.step_types.specs.declared.names.Names.{Names}
 use Rattle.construction_reader.specs.Words.{◌is◌}
-use Rattle.construction_reader.proofs.ObjectLaws.{is_same, is_itself}
-use Rattle.proof_text.specs.Numbers.{is_number, is_run, is_counted, number_of}
+use Rattle.construction_reader.proofs.ObjectLaws.{is_itself}
+use Rattle.proof_text.specs.Numbers.{is_run, is_counted, number_of}
 use Rattle.proof_text.specs.Forms.{Power, power_word, IsPower, AreRuns}
 use Rattle.proof_text.specs.Meant.{is_among, place_of, exponents_meant, is_rising}
 use Rattle.proof_text.specs.Terms.{power_texts}
 use Rattle.proof_text.specs.Kinds.{powers_named}
 use Rattle.proof_text.proofs.NumberLaws.{and_true}
 use Rattle.proof_text.proofs.DecimalLaws.{decimal_of_number}
-use Rattle.proof_text.proofs.NameLaws.{AreDifferent, name_at, place_below, all_at, length-map}
-use Rattle.proof_text.proofs.IntegerLaws.{IsCounted, counted_is, is_counted_by, decimal_counted, decimal_value}
+use Rattle.proof_text.proofs.NameLaws.{AreDifferent, name_at, place_below}
+use Rattle.proof_text.proofs.IntegerLaws.{counted_is, is_counted_by, decimal_counted, decimal_value}
 
 -- ---- what is read is written again
 

@@ -1,10 +1,9 @@
 -- Terms and uses of syzygies by their spelling.
-use Rattle.std.proofs.Common.{◌≡◌, ℕ, ◌-◌, ◌^◌, ◌<◌, ◌≤◌, Bool, true, false, List, [], ◌∷◌, ◌++◌, map, length, get_or}
-use Rattle.std.proofs.Common.{drop, Ok, Err, ℤ, refl, sym, ap, subst, ◌∙◌, arith}
+use Rattle.std.proofs.Common.{◌≡◌, ℕ, ◌-◌, ◌^◌, ◌<◌, Bool, true, false, List, ◌∷◌, ◌++◌, map, length}
+use Rattle.std.proofs.Common.{Ok, Err, ℤ, sym, ap, subst, ◌∙◌}
 use Rattle.std.specs.Prelude.{◌&&◌}
 use Rattle.std.specs.List.{list_all}
 use Rattle.std.proofs.lemmas.List.Folds.{list_all-map}
-use Rattle.std.proofs.lemmas.Simd.{map-map}
 use Rattle.coordinate_model.specs.Sequences.{IsRank}
 use Rattle.coordinate_model.specs.Key.{Key, row_cmp}
 use Rattle.coordinate_model.specs.Words.{ordered}
@@ -13,7 +12,6 @@ use Rattle.bracket_terms.specs.Uses.{IsLogUse, use_by}
 use Rattle.step_types.specs.declared.names.Names.{Names}
 use Rattle.proof_text.specs.declared.fault.ProofKind.TheVariants as kind
 use Rattle.proof_text.specs.declared.spelling.Spelt as code_spelt
-use Rattle.proof_text.specs.declared.spelling.Power as code_power
 use Rattle.proof_text.specs.declared.fault.LineError.{LineError}
 use Rattle.proof_text.specs.declared.fault.LineError.TheVariants as errors
 use Rattle.proof_text.specs.Numbers.{is_counted}
@@ -21,7 +19,8 @@ use Rattle.proof_text.specs.Forms.{Form, Power, Spelt, IsForm, IsRowOf}
 use Rattle.proof_text.specs.Meant.{is_among, place_of, points_meant, exponents_meant, integer_meant, use_meant}
 use Rattle.proof_text.specs.Meant.{is_rising, is_ascending, is_ordered}
 use Rattle.proof_text.specs.Kinds.{powers_named, is_named, is_unnamed, is_misnumbered}
-use Rattle.proof_text.specs.Seen.{power_seen, row_seen, spelt_seen}
+use Rattle.proof_text.specs.Seen.{row_seen, spelt_seen}
+use Rattle.proof_text.specs.Shapes.{powers_of}
 use Rattle.proof_text.specs.Ordered.{ordered_rows, ordered_key, ordered_use}
 use Rattle.proof_text.specs.Outcome.{AreNames}
 use Rattle.proof_text.specs.Taken.{Refuses}
@@ -35,46 +34,42 @@ use Rattle.proof_text.proofs.UseLaws.{use_read}
 -- ---- parameters
 
 named_powers : (names : Names) (t : code_spelt.Spelt) → is_named names (spelt_seen t) ≡ true
-    → list_all (λ (power : code_power.Power). is_among names.params power.name) t.powers.items ≡ true
+    → list_all (λ (power : Power). is_among names.params power.name) (powers_of t.behind).0 ≡ true
 named_powers names t named =
-    let both = and_true (powers_named names (map power_seen t.powers.items))
-    (list_all (λ row. list_all (is_among names.free) row) (map row_seen t.rows.items)) named in
-    sym (list_all-map (λ (power : Power). is_among names.params power.name) power_seen t.powers.items) ∙ both.0
+    (and_true (powers_named names (powers_of t.behind).0)
+    (list_all (λ row. list_all (is_among names.free) row) (map row_seen t.rows.items)) named).0
 
 pub term_powers_named : (names : Names) (t : code_spelt.Spelt) → is_unnamed names (Form.Term (spelt_seen t)) ≡ false
-    → list_all (λ (power : code_power.Power). is_among names.params power.name) t.powers.items ≡ true
+    → list_all (λ (power : Power). is_among names.params power.name) (powers_of t.behind).0 ≡ true
 term_powers_named names t named = named_powers names t (not_false _ named)
 
 pub use_powers_named : (names : Names) (t : code_spelt.Spelt) (alpha beta gamma : List (List ℕ))
     → is_unnamed names (Form.Use (spelt_seen t) alpha beta gamma) ≡ false
-    → list_all (λ (power : code_power.Power). is_among names.params power.name) t.powers.items ≡ true
+    → list_all (λ (power : Power). is_among names.params power.name) (powers_of t.behind).0 ≡ true
 use_powers_named names t alpha beta gamma named =
     named_powers names t
     (and_true (is_named names (spelt_seen t)) (list_all (is_among names.free) (alpha ++ (beta ++ gamma)))
     (not_false _ named)).0
 
 pub powers_numbered : (t : code_spelt.Spelt) → is_misnumbered (Form.Term (spelt_seen t)) ≡ false
-    → list_all (λ (power : code_power.Power). is_counted 1000 power.digits) t.powers.items ≡ true
+    → list_all (λ (power : Power). is_counted 1000 power.digits) (powers_of t.behind).0 ≡ true
 powers_numbered t numbered =
-    let both = and_true (is_counted (2 ^ 127 - 1) t.digits)
-    (list_all (λ power. is_counted 1000 power.digits) (map power_seen t.powers.items))
-    (not_false _ numbered) in
-    sym (list_all-map (λ (power : Power). is_counted 1000 power.digits) power_seen t.powers.items) ∙ both.1
+    (and_true (is_counted (2 ^ 127 - 1) t.digits)
+    (list_all (λ power. is_counted 1000 power.digits) (powers_of t.behind).0)
+    (not_false _ numbered)).1
+
+-- what holds of all holds of the first and of the others
+pub all_parts : {A : Type 0} (p : A → Bool) (all : List A) (x : A) (xs : List A) → list_all p all ≡ true → all ≡ x ∷ xs
+    → (p x ≡ true) × (list_all p xs ≡ true)
+all_parts p all x xs each here = and_true (p x) (list_all p xs) (sym (ap (list_all p) here) ∙ each)
 
 -- the first parameter has a place
-pub first_place : (names : Names) (powers : List code_power.Power) (power : code_power.Power)
-    → list_all (λ (power : code_power.Power). is_among names.params power.name) powers ≡ true → 1 ≤ length powers
-    → power ≡ get_or powers 0 power → place_of names.params power.name < length names.params
-first_place names [] power named some here = absurd (omega arith)
-first_place names (first ∷ powers) power named some here =
+pub first_place : (names : Names) (powers : List Power) (power : Power) (rest : List Power)
+    → list_all (λ (power : Power). is_among names.params power.name) powers ≡ true → powers ≡ power ∷ rest
+    → place_of names.params power.name < length names.params
+first_place names powers power rest named here =
     place_below names.params power.name
-    (ap (λ (q : code_power.Power). is_among names.params q.name) here
-    ∙ (and_true (is_among names.params first.name)
-    (list_all (λ (q : code_power.Power). is_among names.params q.name) powers) named).0)
-
-pub all_rest : {A : Type 0} (p : A → Bool) (xs : List A) → list_all p xs ≡ true → list_all p (drop 1 xs) ≡ true
-all_rest p [] all = refl
-all_rest p (x ∷ xs) all = (and_true (p x) (list_all p xs) all).1
+    (all_parts (λ (power : Power). is_among names.params power.name) powers power rest named here).0
 
 -- ---- orders
 
@@ -82,15 +77,12 @@ pub ordered_is : (names : Names) (t : code_spelt.Spelt) (rows : List (List ℕ))
     (map row_seen t.rows.items)
     → is_ordered names (spelt_seen t)
     ≡ list_all is_rising rows && is_ascending rows
-    && is_rising (map (λ (power : code_power.Power). place_of names.params power.name) t.powers.items)
+    && is_rising (map (λ (power : Power). place_of names.params power.name) (powers_of t.behind).0)
 ordered_is names t rows same =
-    ap (λ bs. bs && is_ascending (map (points_meant names) (map row_seen t.rows.items))
-    && is_rising (map (λ power. place_of names.params power.name) (map power_seen t.powers.items)))
+    let last = is_rising (map (λ (power : Power). place_of names.params power.name) (powers_of t.behind).0) in
+    ap (λ bs. bs && is_ascending (map (points_meant names) (map row_seen t.rows.items)) && last)
     (sym (list_all-map is_rising (points_meant names) (map row_seen t.rows.items)))
-    ∙ ap (λ rs. list_all is_rising rs && is_ascending rs
-    && is_rising (map (λ power. place_of names.params power.name) (map power_seen t.powers.items))) (sym same)
-    ∙ ap (λ ps. list_all is_rising rows && is_ascending rows && is_rising ps)
-    (map-map (λ (power : Power). place_of names.params power.name) power_seen t.powers.items)
+    ∙ ap (λ rs. list_all is_rising rs && is_ascending rs && last) (sym same)
 
 -- rows that are found rise in each
 pub found_rising : (names : Names) (t : code_spelt.Spelt) (rows : List (List ℕ)) → rows ≡ map (points_meant names)
@@ -99,7 +91,7 @@ pub found_rising : (names : Names) (t : code_spelt.Spelt) (rows : List (List ℕ
 found_rising names t rows same good =
     (and_true (list_all is_rising rows) (is_ascending rows)
     (and_true (list_all is_rising rows && is_ascending rows)
-    (is_rising (map (λ (power : code_power.Power). place_of names.params power.name) t.powers.items))
+    (is_rising (map (λ (power : Power). place_of names.params power.name) (powers_of t.behind).0))
     (sym (ordered_is names t rows same) ∙ good)).0).0
 
 -- ---- keys

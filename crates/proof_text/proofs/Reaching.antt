@@ -1,6 +1,6 @@
 -- Lines of forms without a fault lead from one state to another.
-use Rattle.std.proofs.Common.{◌≡◌, ℕ, ◌+◌, ◌<◌, ◌≤◌, Bool, true, false, not, List, [], ◌∷◌, ◌++◌, length, map, Result, Ok, Err, refl, sym, ap, subst, ◌∙◌, append_assoc, arith, codes, inl, inr, ◌⊎◌}
-use Rattle.std.specs.Prelude.{Option, Some, None, ◌||◌, ◌&&◌, if◌then◌else◌}
+use Rattle.std.proofs.Common.{◌≡◌, ℕ, ◌+◌, ◌≤◌, Bool, true, false, List, [], ◌∷◌, ◌++◌, Ok, refl, ap, subst, ◌∙◌, append_assoc, codes, inl, inr, ◌⊎◌}
+use Rattle.std.specs.Prelude.{None, ◌||◌}
 use Rattle.std.specs.List.{list_all}
 use Rattle.std.proofs.lemmas.Bool.{cases_Bool}
 use Rattle.std.proofs.lemmas.List.{map-append}
@@ -9,10 +9,9 @@ use Rattle.step_types.specs.declared.names.Names.{Names}
 use Rattle.construction_reader.specs.Words.{◌is◌}
 use Rattle.construction_reader.proofs.ObjectLaws.{is_same}
 use Rattle.proof_text.specs.Cut.{Line}
-use Rattle.proof_text.specs.Lines.{spaced}
 use Rattle.proof_text.specs.Forms.{PlainForm, form_line, IsRowOf, IsForm, is_stopped}
 use Rattle.proof_text.specs.Shapes.{form_of, words_of, spelt_of, signed_of}
-use Rattle.proof_text.specs.State.{Place, State, ready, moved, after}
+use Rattle.proof_text.specs.State.{State, ready, after}
 use Rattle.proof_text.specs.Readings.{is_over, takes_line, takes_ready, takes_form, reads}
 use Rattle.proof_text.proofs.FormAgain.{lacks}
 use Rattle.proof_text.proofs.FormAlso.{line_again}

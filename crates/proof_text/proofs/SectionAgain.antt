@@ -1,25 +1,25 @@
 -- The lines of a section lead to a state that holds it.
-use Rattle.std.proofs.Common.{◌≡◌, ℕ, ◌+◌, ◌<◌, ◌≤◌, Bool, true, false, T, not, List, [], ◌∷◌, ◌++◌, length, length-append, map, refl, sym, ap, subst, ◌∙◌, append_assoc, append-nil, arith, codes, ℤ}
+use Rattle.std.proofs.Common.{◌≡◌, ℕ, ◌<◌, ◌≤◌, Bool, true, false, T, not, List, [], ◌∷◌, ◌++◌, length, length-append, map, refl, sym, ap, subst, ◌∙◌, append_assoc, append-nil, arith, codes, ℤ}
 use Rattle.std.specs.Prelude.{flat_map, nat_lt, ◌==◌, ◌&&◌, Option, Some, None}
 use Rattle.std.specs.FinMap.{is_sorted}
-use Rattle.std.specs.List.{AllByRecursion, list_all}
+use Rattle.std.specs.List.{AllByRecursion}
 use Rattle.std.proofs.lemmas.Bool.{lt-ltb, eq-eqb}
 use Rattle.coordinate_model.specs.Sums.{Terms, is_zero, empty}
 use Rattle.coordinate_model.specs.Key.{Key, key_cmp, row_cmp}
-use Rattle.coordinate_model.specs.BracketPolynomial.{BracketPolynomial, AllKeys}
+use Rattle.coordinate_model.specs.BracketPolynomial.{BracketPolynomial}
 use Rattle.coordinate_model.specs.Syzygy.{Use}
 use Rattle.bracket_poly.specs.Sections.{Rewritten, Worked}
 use Rattle.bracket_poly.specs.Tracked.{fits, met_limit}
 use Rattle.step_types.specs.declared.names.Names.{Names}
 use Rattle.proof_text.specs.Lines.{spaced}
-use Rattle.proof_text.specs.Forms.{Part, Form, PlainForm, form_line, IsRowOf}
-use Rattle.proof_text.specs.Meant.{term_meant, use_meant, points_meant, is_among, is_rising}
+use Rattle.proof_text.specs.Forms.{Part, Form, PlainForm, form_line}
+use Rattle.proof_text.specs.Meant.{term_meant, is_rising}
 use Rattle.proof_text.specs.Terms.{point_names, term_words, terms_lines, polynomial_lines}
 use Rattle.proof_text.specs.Proofs.{use_line, section_lines, end_lines}
 use Rattle.proof_text.specs.Kinds.{is_behind_terms, is_behind_sections}
 use Rattle.proof_text.specs.Told.{IsSumTold, IsKeyTold, IsUseTold, IsEndTold, IsSectionTold}
 use Rattle.bracket_poly.specs.Values.{extensor_size}
-use Rattle.proof_text.specs.State.{Place, State, begun, takes, ready, moved, after, ended_at, with_part, with_end, with_term}
+use Rattle.proof_text.specs.State.{Place, State, begun, takes, ready, moved, ended_at, with_part, with_term}
 use Rattle.proof_text.specs.Readings.{is_over}
 use Rattle.proof_text.proofs.NameLaws.{points_again, points_among, points_run}
 use Rattle.proof_text.proofs.OrderLaws.{increases_rising}

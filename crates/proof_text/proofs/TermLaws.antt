@@ -1,28 +1,21 @@
 -- Terms and uses: what is read is written again and lies within the limits, and what is written is read again.
-use Rattle.std.proofs.Common.{◌≡◌, ◌≢◌, ℕ, zero, suc, ◌+◌, ◌-◌, ◌^◌, ◌<◌, ◌≤◌, Bool, true, false, not, List, [], ◌∷◌, ◌++◌, length, map, replicate, drop, refl, sym, ap, subst, ◌∙◌, arith, codes, inl, inr, ℤ, pos, negsuc}
-use Rattle.std.specs.Prelude.{decimal, ◌&&◌, nat_le, neg_ℤ, slice_set, IsSorted}
-use Rattle.std.specs.List.{list_all, AllByRecursion, IsDistinct}
-use Rattle.std.specs.List.Sorted.{IsStrictlyIncreasing}
+use Rattle.std.proofs.Common.{◌≡◌, ℕ, zero, suc, ◌-◌, ◌^◌, ◌<◌, ◌≤◌, Bool, true, false, List, [], ◌∷◌, ◌++◌, length, map, replicate, drop, refl, sym, ap, subst, ◌∙◌, arith, codes, ℤ}
+use Rattle.std.specs.Prelude.{decimal, ◌&&◌, slice_set}
+use Rattle.std.specs.List.{list_all, AllByRecursion}
 use Rattle.std.proofs.lemmas.List.{drop-set-lt}
 use Rattle.std.proofs.lemmas.List.Folds.{list_all-append}
-use Rattle.coordinate_model.specs.Sequences.{IsRank}
 use Rattle.coordinate_model.specs.Sums.{is_zero}
-use Rattle.coordinate_model.specs.Key.{Key, IsKey, IsRow, row_cmp}
-use Rattle.coordinate_model.specs.Syzygy.{Use, IsUse, use_key}
-use Rattle.bracket_terms.specs.Uses.{IsLogUse}
+use Rattle.coordinate_model.specs.Key.{Key, IsKey, IsRow}
 use Rattle.bracket_poly.specs.Sizes.{KeyWithin}
 use Rattle.bracket_poly.specs.Tracked.{fits}
-use Rattle.bracket_poly.proofs.TrackedLaws as tracked
 use Rattle.step_types.specs.declared.names.Names.{Names}
-use Rattle.construction_reader.specs.Words.{◌is◌}
 use Rattle.proof_text.specs.Lines.{spaced}
-use Rattle.proof_text.specs.Numbers.{is_run, is_number, is_counted, number_of}
-use Rattle.proof_text.specs.Forms.{Power, Spelt, Form, signed_word, power_word, row_word, spelt_words, form_words, form_line, IsPower, AreRuns, IsRowOf, IsSpelt, IsForm}
-use Rattle.proof_text.specs.Meant.{is_among, place_of, points_meant, exponents_meant, integer_meant, term_meant, use_meant, is_rising, is_ascending, is_ordered}
+use Rattle.proof_text.specs.Numbers.{is_run, is_counted, number_of}
+use Rattle.proof_text.specs.Forms.{Power, Spelt, signed_word, power_word, row_word, spelt_words, AreRuns, IsRowOf, IsSpelt}
+use Rattle.proof_text.specs.Meant.{is_among, place_of, points_meant, exponents_meant, term_meant, is_rising, is_ascending, is_ordered}
 use Rattle.proof_text.specs.Terms.{signed_text, point_names, row_text, power_texts, term_words}
-use Rattle.proof_text.specs.Proofs.{part_words, use_words, use_line}
 use Rattle.proof_text.specs.Kinds.{powers_named, is_named, is_numbered}
-use Rattle.proof_text.specs.Told.{AreBelow, IsKeyTold, IsUseTold}
+use Rattle.proof_text.specs.Told.{IsKeyTold}
 use Rattle.proof_text.specs.Outcome.{AreNames}
 use Rattle.proof_text.proofs.NumberLaws.{and_true}
 use Rattle.proof_text.proofs.NameLaws.{AreDifferent, different_front, different_back, names_again, points_below, points_again, points_among, points_run, length-map, place_below}

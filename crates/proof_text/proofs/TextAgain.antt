@@ -1,6 +1,6 @@
 -- The text of a proof is read as that proof.
-use Rattle.std.proofs.Common.{◌≡◌, ℕ, ◌+◌, ◌^◌, ◌<◌, ◌≤◌, Bool, true, false, not, List, [], ◌∷◌, ◌++◌, length, length-append, Ok, refl, sym, ap, subst, ◌∙◌, append_assoc, append-nil, arith, codes}
-use Rattle.std.specs.Prelude.{decimal, flat_map, slice_index, nat_lt, ◌==◌, ◌&&◌, if◌then◌else◌}
+use Rattle.std.proofs.Common.{◌≡◌, ℕ, ◌+◌, ◌^◌, ◌<◌, ◌≤◌, Bool, true, false, not, List, [], ◌∷◌, ◌++◌, length, length-append, Ok, refl, sym, ap, subst, ◌∙◌, append_assoc, append-nil, arith}
+use Rattle.std.specs.Prelude.{decimal, flat_map, slice_index, nat_lt, if◌then◌else◌}
 use Rattle.std.specs.List.{AllByRecursion}
 use Rattle.std.proofs.Math.Seq.{get_or-append_seam}
 use Rattle.std.proofs.lemmas.Bool.{lt-ltb, le-ltb}
@@ -8,19 +8,18 @@ use Rattle.bracket_poly.specs.Sections.{Rewritten, Worked}
 use Rattle.step_types.specs.declared.names.Names.{Names}
 use Rattle.construction_reader.proofs.ObjectLaws.{is_itself}
 use Rattle.proof_text.specs.Cut.{cut}
-use Rattle.proof_text.specs.Lines.{text_of}
-use Rattle.proof_text.specs.Numbers.{is_padded, number_of, writes}
+use Rattle.proof_text.specs.Numbers.{number_of, writes}
 use Rattle.proof_text.specs.Forms.{Form, form_line, verdict_word}
-use Rattle.proof_text.specs.Proofs.{section_lines, object_lines, head_lines}
+use Rattle.proof_text.specs.Proofs.{object_lines, head_lines}
 use Rattle.proof_text.specs.Kinds.{are_same, is_next_object, is_decided}
 use Rattle.proof_text.specs.Told.{Told, proof_lines, is_zero_end, IsSectionTold, IsObjectTold, AreObjectsTold, IsDecided, IsLastDecided, TextOf}
-use Rattle.proof_text.specs.State.{Place, State, at_first, begun, takes, moved, with_object, told}
+use Rattle.proof_text.specs.State.{Place, State, at_first, begun, takes, told}
 use Rattle.proof_text.specs.Readings.{reads, read_of}
 use Rattle.proof_text.proofs.NameLaws.{all_at}
 use Rattle.proof_text.proofs.IntegerLaws.{decimal_number, decimal_value, decimal_plain, decimal_writes}
 use Rattle.proof_text.proofs.LineFeeds.{closed_lines, cut_text}
 use Rattle.proof_text.proofs.MoveLaws as move
-use Rattle.proof_text.proofs.Reaching.{Reaches, reach_none, reach_both, reach_to, reach_lines, reach_one}
+use Rattle.proof_text.proofs.Reaching.{Reaches, reach_both, reach_to, reach_lines, reach_one}
 use Rattle.proof_text.proofs.SectionAgain as section
 
 same_self : (names : List (List ℕ)) → are_same names names ≡ true

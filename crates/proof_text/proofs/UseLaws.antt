@@ -1,7 +1,7 @@
 -- Uses of syzygies: what is read is written again and lies within the limits, and what is written is read again.
-use Rattle.std.proofs.Common.{◌≡◌, ◌≢◌, ℕ, ◌+◌, ◌^◌, ◌<◌, ◌≤◌, Bool, true, false, not, List, [], ◌∷◌, ◌++◌, length, map, refl, sym, ap, subst, ◌∙◌, arith, codes, ℤ, pos}
+use Rattle.std.proofs.Common.{◌≡◌, ◌≢◌, ℕ, ◌+◌, ◌^◌, ◌≤◌, true, false, not, List, ◌∷◌, ◌++◌, length, sym, ap, ◌∙◌, codes, ℤ, pos}
 use Rattle.std.specs.Prelude.{◌&&◌, neg_ℤ}
-use Rattle.std.specs.List.{list_all, AllByRecursion}
+use Rattle.std.specs.List.{list_all}
 use Rattle.std.proofs.lemmas.List.Folds.{list_all-append}
 use Rattle.coordinate_model.specs.Sequences.{IsRank}
 use Rattle.coordinate_model.specs.Sums.{is_zero}
@@ -11,16 +11,16 @@ use Rattle.bracket_poly.specs.Tracked.{fits}
 use Rattle.bracket_poly.proofs.TrackedLaws as tracked
 use Rattle.step_types.specs.declared.names.Names.{Names}
 use Rattle.proof_text.specs.Lines.{spaced}
-use Rattle.proof_text.specs.Forms.{Spelt, Form, PlainForm, row_word, spelt_words, form_words, form_line, IsRowOf, IsForm}
+use Rattle.proof_text.specs.Forms.{Spelt, Form, PlainForm, row_word, spelt_words, form_line, IsRowOf, IsForm}
 use Rattle.proof_text.specs.Meant.{is_among, points_meant, term_meant, use_meant, is_ordered}
-use Rattle.proof_text.specs.Terms.{point_names, term_words}
-use Rattle.proof_text.specs.Proofs.{use_words, use_line}
+use Rattle.proof_text.specs.Terms.{point_names}
+use Rattle.proof_text.specs.Proofs.{use_line}
 use Rattle.proof_text.specs.Kinds.{is_named, is_numbered, is_unnamed, is_misnumbered, is_disordered}
 use Rattle.proof_text.specs.State.{State}
 use Rattle.proof_text.specs.Told.{IsUseTold}
 use Rattle.proof_text.proofs.NumberLaws.{and_true}
 use Rattle.proof_text.proofs.NameLaws.{names_again, points_below, points_again, points_among, points_run, length-map}
-use Rattle.proof_text.proofs.TermLaws.{KnowsNames, IsTermRead, term_read, term_spelt, IsTermWritten, term_written}
+use Rattle.proof_text.proofs.TermLaws.{KnowsNames, term_read, term_spelt, term_written}
 
 pub not_pos : (c : ℤ) → is_zero c ≡ false → c ≢ pos 0
 not_pos c some e = let never = ap is_zero e in cc

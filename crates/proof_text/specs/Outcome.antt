@@ -1,12 +1,10 @@
 -- What a proof is read for, and what a proof of the code tells.
-use Rattle.std.specs.Prelude.{◌≡◌, ℕ, ◌≤◌, ◌<◌, ◌^◌, ◌&&◌, true, List, ◌++◌, map, length, sum_by, IfSome}
+use Rattle.std.specs.Prelude.{◌≡◌, ℕ, ◌≤◌, ◌<◌, ◌^◌, true, List, ◌++◌, map, length, sum_by, IfSome}
 use Rattle.std.specs.List.{AllByRecursion, IsDistinct, list_all}
 use Rattle.coordinate_model.specs.Sequences.{IsRank}
-use Rattle.coordinate_model.specs.Key.{Key}
 use Rattle.bracket_poly.specs.Kept.{TrackedOf}
 use Rattle.bracket_poly.specs.Sections.{worked_of}
 use Rattle.bracket_poly.specs.declared.section.Section.{Section}
-use Rattle.bracket_poly.specs.declared.section.ObjectLog.{ObjectLog}
 use Rattle.construction_reader.specs.Words.{◌is◌}
 use Rattle.step_types.specs.declared.names.Names.{Names}
 use Rattle.proof_text.specs.declared.proof.Proof.{Proof}

@@ -18,12 +18,12 @@ ghost use Rattle.proof_text.specs.Taken.{Takes};
 
 use crate::adding::{add_last, is_behind, is_behind_sections};
 use crate::fault::{LineError, ProofKind};
+use crate::line_words::Words;
 use crate::moves::is_decided;
 use crate::products::{coefficient, key};
 use crate::scalars::extensor;
 use crate::spelling::{Part, Spelt};
 use crate::state::{Place, State};
-use crate::word::Word;
 use bracket_poly::{ObjectLog, Poly};
 use bracket_terms::{Items, LogUse};
 use cay_base::NoMemory;
@@ -94,7 +94,12 @@ impl<const D: usize> State<D> {
     }
 
     /// Begins a section, whose points come behind those of the last one.
-    pub(crate) fn take_scalar(&mut self, names: &Names, words: &[Word]) -> Result<(), LineError>
+    pub(crate) fn take_scalar(
+        &mut self,
+        alloc: Global,
+        names: &Names,
+        words: &Words,
+    ) -> Result<(), LineError>
         requires rank { IsRank D }
         requires names { AreNames D names.now }
         requires sound { IsSound self.old }
@@ -102,7 +107,7 @@ impl<const D: usize> State<D> {
             (takes_well names.now (state_seen self.old) (SaidForm.Scalar words.now)) }
         ensures sound { OnOk result (IsSound self.new) }
     {
-        let Some(scalar) = extensor(names, self.extensor_size(), words) else {
+        let Some(scalar) = extensor(alloc, names, self.extensor_size(), words)? else {
             return Err(LineError::Fault(ProofKind::Order));
         };
         if !is_behind_sections(&scalar.points[..scalar.size as usize], &self.sections) {

@@ -2,30 +2,32 @@
 ghost use Rattle.std.specs.Prelude.{◌≡◌, ◌++◌, ◌-◌, ◌^◌, map};
 ghost use Rattle.std.specs.List.{list_all};
 ghost use Rattle.proof_text.specs.Numbers.{is_counted};
-ghost use Rattle.proof_text.specs.Seen.{power_seen, row_seen, spelt_seen, form_seen};
+ghost use Rattle.proof_text.specs.Seen.{powers_seen, row_seen, spelt_seen, form_seen};
 ghost use Rattle.proof_text.specs.Meant.{is_among};
 ghost use Rattle.proof_text.specs.Kinds.{are_same, is_other_header, powers_named, is_named, is_unnamed, is_numbered, is_misnumbered};
 
+use crate::line_words::Words;
 use crate::meaning::is_among;
 use crate::numbers::{is_counted, is_padded, writes};
-use crate::spelling::{Form, Power, Row, Spelt};
-use crate::word::Word;
+use crate::powers::Powers;
+use crate::spelling::{Form, Row, Spelt};
 use construction_reader::Name;
 use step_types::Names;
 
 /// Whether the lists of names are the same.
-fn are_same(words: &[Word], names: &[Name]) -> bool
+fn are_same(words: &Words, names: &[Name]) -> bool
     ensures { result ≡ are_same words.now names.now }
 {
-    if words.len() != names.len() {
-        return false;
-    }
-    for (i, word) in words.iter().enumerate() {
-        if !word.is(names[i].bytes()) {
+    let mut rest = words.again();
+    for name in names {
+        let Some(word) = rest.next() else {
+            return false;
+        };
+        if !word.is(name.bytes()) {
             return false;
         }
     }
-    true
+    rest.next().is_none()
 }
 
 /// Whether the line of the header is another than the text's.
@@ -41,24 +43,38 @@ pub(crate) fn is_other_header(names: &Names, form: &Form) -> bool
 }
 
 /// Whether all words are among the names.
-fn are_among(names: &[Name], words: &[Word]) -> bool
+fn are_among(names: &[Name], words: &Words) -> bool
     ensures { result ≡ list_all (is_among names.now) words.now }
 {
-    words.iter().all(|word| is_among(names, word))
+    for word in words.again() {
+        if !is_among(names, &word) {
+            return false;
+        }
+    }
+    true
+}
+
+fn is_row_among(names: &[Name], row: &Row) -> bool
+    ensures { result ≡ list_all (is_among names.now) (row_seen row.now) }
+{
+    row.names.iter().all(|word| is_among(names, word))
 }
 
 fn are_rows_among(names: &[Name], rows: &[Row]) -> bool
     ensures { result ≡ list_all (λ row. list_all (is_among names.now) (row_seen row)) rows.now }
 {
-    rows.iter().all(|row| are_among(names, &row.names))
+    rows.iter().all(|row| is_row_among(names, row))
 }
 
-fn are_powers_named(names: &Names, powers: &[Power]) -> bool
-    ensures { result ≡ list_all (λ power. is_among names.now.params power.name) powers.now }
+fn are_powers_named(names: &[Name], powers: Powers) -> bool
+    ensures { result ≡ list_all (λ power. is_among names.now power.name) (powers_seen powers.entry) }
 {
-    powers
-        .iter()
-        .all(|power| is_among(names.params.items(), &power.name))
+    for power in powers {
+        if !is_among(names, &power.name) {
+            return false;
+        }
+    }
+    true
 }
 
 /// Whether all names of the term are those of points and parameters.
@@ -66,23 +82,26 @@ fn are_powers_named(names: &Names, powers: &[Power]) -> bool
 fn is_named(names: &Names, term: &Spelt) -> bool
     ensures { result ≡ is_named names.now (spelt_seen term.now) }
 {
-    are_powers_named(names, &term.powers) && are_rows_among(names.free.items(), &term.rows)
+    are_powers_named(names.params.items(), Powers::of(&term.behind))
+        && are_rows_among(names.free.items(), &term.rows)
 }
 
 /// Whether the coefficient and the exponents are numbers in their one spelling, within their limits.
-#[tactic(auto, using(crate::proofs::KindSteps::mapped))]
 fn is_numbered(term: &Spelt) -> bool
     ensures { result ≡ is_numbered (spelt_seen term.now) }
 {
-    is_counted(term.digits.bytes(), i128::MAX as u128) && are_exponents(&term.powers)
+    is_counted(term.digits.bytes(), i128::MAX as u128) && are_exponents(Powers::of(&term.behind))
 }
 
-fn are_exponents(powers: &[Power]) -> bool
-    ensures { result ≡ list_all (λ power. is_counted 1000 power.digits) powers.now }
+fn are_exponents(powers: Powers) -> bool
+    ensures { result ≡ list_all (λ power. is_counted 1000 power.digits) (powers_seen powers.entry) }
 {
-    powers
-        .iter()
-        .all(|power| is_counted(power.digits.bytes(), 1000))
+    for power in powers {
+        if !is_counted(power.digits.bytes(), 1000) {
+            return false;
+        }
+    }
+    true
 }
 
 /// Whether a number is zero where it may not be, has another spelling, or is over its limit.
@@ -118,7 +137,7 @@ pub(crate) fn is_unnamed(names: &Names, form: &Form) -> bool
 }
 
 #[tactic(auto, using(crate::proofs::KindSteps::appended))]
-fn are_points(names: &[Name], alpha: &[Word], beta: &[Word], gamma: &[Word]) -> bool
+fn are_points(names: &[Name], alpha: &Words, beta: &Words, gamma: &Words) -> bool
     ensures { result ≡ list_all (is_among names.now) (alpha.now ++ (beta.now ++ gamma.now)) }
 {
     are_among(names, alpha) && are_among(names, beta) && are_among(names, gamma)

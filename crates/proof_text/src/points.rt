@@ -3,6 +3,7 @@ ghost use Rattle.std.specs.Prelude.{◌≡◌, ◌≤◌, ◌-◌, ◌++◌, map
 ghost use Rattle.std.specs.List.{list_all};
 ghost use Rattle.proof_text.specs.Meant.{place_of, is_rising, is_ascending};
 
+use crate::line_words::Words;
 use crate::meaning::place;
 use crate::word::Word;
 use cay_base::NoMemory;
@@ -26,13 +27,13 @@ fn point(names: &[Name], word: &Word) -> u8
 }
 
 /// The points of these names.
-pub(crate) fn points(alloc: Global, names: &[Name], words: &[Word]) -> Result<Vec<u8>, NoMemory>
+pub(crate) fn points(alloc: Global, names: &[Name], words: &Words) -> Result<Vec<u8>, NoMemory>
     requires { length names.now ≤ 200 }
     ensures { IfOk result (λ points. points.items ≡ map (place_of names.now) words.now) }
 {
     let mut points = Vec::new(alloc);
-    for word in words {
-        points.push(point(names, word))?;
+    for word in words.again() {
+        points.push(point(names, &word))?;
     }
     Ok(points)
 }

@@ -1,5 +1,5 @@
 //! Products of parameters and brackets, and uses of syzygies, by their spelling.
-ghost use Rattle.std.specs.Prelude.{◌≡◌, ◌≤◌, ◌&&◌, true, false, map, length, IfOk};
+ghost use Rattle.std.specs.Prelude.{◌≡◌, ◌≤◌, ◌&&◌, ◌∷◌, true, false, map, length, IfOk};
 ghost use Rattle.std.specs.List.{AllByRecursion, list_all};
 ghost use Rattle.coordinate_model.specs.Sequences.{IsRank};
 ghost use Rattle.bracket_terms.specs.LogUses.{use_of};
@@ -9,15 +9,17 @@ ghost use Rattle.proof_text.specs.Meant.{is_among, place_of, points_meant, expon
 ghost use Rattle.proof_text.specs.Meant.{is_ascending, is_ordered};
 ghost use Rattle.proof_text.specs.Kinds.{is_unnamed, is_misnumbered};
 ghost use Rattle.proof_text.specs.Outcome.{AreNames};
-ghost use Rattle.proof_text.specs.Seen.{power_seen, row_seen, spelt_seen};
+ghost use Rattle.proof_text.specs.Seen.{powers_seen, row_seen, spelt_seen};
 ghost use Rattle.proof_text.specs.Taken.{Takes};
 ghost use Rattle.proof_text.specs.Ordered.{ordered_rows, ordered_key, ordered_use};
 
 use crate::fault::{LineError, ProofKind};
+use crate::line_words::Words;
 use crate::meaning::integer;
 use crate::numbers::counted;
 use crate::points::{are_rising, is_ascending, place_or_len, points, points_in_front};
-use crate::spelling::{Power, Row, Spelt};
+use crate::powers::Powers;
+use crate::spelling::{Row, Spelt};
 use crate::word::Word;
 use bracket_poly::Key;
 use bracket_terms::{Bracket, Items, LogUse, Params, Signed, sort};
@@ -44,34 +46,41 @@ fn exponent(digits: &Word) -> u16
 }
 
 /// The product of the parameters.
-fn params_meant(names: &Names, powers: &[Power]) -> Params
+fn params_meant(names: &Names, mut powers: Powers) -> Params
     requires few { length names.now.params ≤ 64 }
-    requires named { list_all (λ power. is_among names.now.params power.name) powers.now ≡ true }
-    requires numbered { list_all (λ power. is_counted 1000 power.digits) powers.now ≡ true }
-    ensures { result ≡ exponents_meant names.now (map power_seen powers.now) }
+    requires named { list_all (λ power. is_among names.now.params power.name) (powers_seen powers) ≡ true }
+    requires numbered { list_all (λ power. is_counted 1000 power.digits) (powers_seen powers) ≡ true }
+    ensures { result ≡ exponents_meant names.now (powers_seen powers.entry) }
 {
-    match powers {
-        [power, rest @ ..] => {
+    match powers.next() {
+        Some(power) => {
             let place = place_or_len(names.params.items(), &power.name) as u8;
-            params_meant(names, rest).with(place, exponent(&power.digits))
+            params_meant(names, powers).with(place, exponent(&power.digits))
         }
-        [] => Params::one(),
+        None => Params::one(),
+    }
+}
+
+/// Whether the parameters stand in their order behind this place, each once.
+fn are_params_behind(names: &[Name], place: usize, mut powers: Powers) -> bool
+    ensures { result ≡ is_rising (place ∷ map (λ power. place_of names.now power.name) (powers_seen powers.entry)) }
+{
+    match powers.next() {
+        Some(power) => {
+            let next = place_or_len(names, &power.name);
+            place < next && are_params_behind(names, next, powers)
+        }
+        None => true,
     }
 }
 
 /// Whether the parameters stand in their order, each once.
-fn are_params_rising(names: &[Name], powers: &[Power]) -> bool
-    ensures { result ≡ is_rising (map (λ power. place_of names.now power.name) powers.now) }
+fn are_params_rising(names: &[Name], mut powers: Powers) -> bool
+    ensures { result ≡ is_rising (map (λ power. place_of names.now power.name) (powers_seen powers.entry)) }
 {
-    match powers {
-        [power, rest @ ..] => match rest {
-            [next, ..] => {
-                place_or_len(names, &power.name) < place_or_len(names, &next.name)
-                    && are_params_rising(names, rest)
-            }
-            [] => true,
-        },
-        [] => true,
+    match powers.next() {
+        Some(power) => are_params_behind(names, place_or_len(names, &power.name), powers),
+        None => true,
     }
 }
 
@@ -87,7 +96,7 @@ fn is_ordered<const D: usize>(names: &Names, term: &Spelt, rows: &[[u8; D]]) -> 
     requires { rows.now ≡ map (points_meant names.now) (map row_seen term.now.rows.items) }
     ensures { result ≡ is_ordered names.now (spelt_seen term.now) }
 {
-    are_rows_ordered(rows) && are_params_rising(names.params.items(), &term.powers)
+    are_rows_ordered(rows) && are_params_rising(names.params.items(), Powers::of(&term.behind))
 }
 
 /// The points of the rows.
@@ -167,7 +176,7 @@ pub(crate) fn key<const D: usize>(
 {
     let rows = ordered_rows::<D>(alloc, names, term)?;
     Ok(Key {
-        params: params_meant(names, &term.powers),
+        params: params_meant(names, Powers::of(&term.behind)),
         tableau: Tableau::from_rows(alloc, &rows)?,
     })
 }
@@ -177,9 +186,9 @@ pub(crate) fn log_use<const D: usize>(
     alloc: Global,
     names: &Names,
     term: &Spelt,
-    alpha: &[Word],
-    beta: &[Word],
-    gamma: &[Word],
+    alpha: &Words,
+    beta: &Words,
+    gamma: &Words,
 ) -> Result<LogUse<D>, LineError>
     requires rank { IsRank D }
     requires names { AreNames D names.now }
@@ -195,7 +204,7 @@ pub(crate) fn log_use<const D: usize>(
     let gamma = points(alloc, free, gamma)?;
     Ok(LogUse {
         multiplier: coefficient(term),
-        params: params_meant(names, &term.powers),
+        params: params_meant(names, Powers::of(&term.behind)),
         rest: Items::of(rest),
         alpha: Items::of(alpha),
         beta: Items::of(beta),

@@ -88,7 +88,7 @@ impl<const D: usize> State<D> {
             Form::Free(_) => self.go_on(Place::AtParams),
             Form::Params(_) => self.go_on(Place::AtObject),
             Form::Object(..) => self.begin_object(alloc, steps),
-            Form::Scalar(words) => self.take_scalar(names, words),
+            Form::Scalar(words) => self.take_scalar(alloc, names, words),
             Form::Opens(part) => self.open_list(alloc, *part),
             Form::Zero => self.take_zero(alloc),
             Form::Term(term) => self.take_term(alloc, names, term),

@@ -17,12 +17,12 @@ returns-in_err-rest g c =
 
 pub params_meant-requires-clause-named : goal.params_meant-requires-clause-named
 params_meant-requires-clause-named g c =
-    rw c.deref.ensures.value
+    rw c.of.ensures
     (use_powers_named c.args.names.now c.args.term.now c.args.alpha.now c.args.beta.now c.args.gamma.now
     c.requires.named)
 
 pub params_meant-requires-clause-numbered : goal.params_meant-requires-clause-numbered
-params_meant-requires-clause-numbered g c = rw c.deref.ensures.value
+params_meant-requires-clause-numbered g c = rw c.of.ensures
     (powers_numbered c.args.term.now c.requires.numbered)
 
 pub invariant_of-result : goal.invariant_of-result
@@ -35,8 +35,8 @@ invariant_of-result g c =
           c.requires.numbered
           c.in_ok-rest.ensures _ _ _ _ _ _
           (to_z-of_z w128 c.coefficient.result fits ∙ c.coefficient.ensures)
-          (rw c.deref.ensures.value at c.params_meant.ensures) c.of.ensures
-          (c.of-2.ensures ∙ rw c.items-free.ensures at c.in_ok-alpha.ensures)
-          (c.of-3.ensures ∙ rw c.items-free.ensures at c.in_ok-beta.ensures)
-          (c.of-4.ensures ∙ rw c.items-free.ensures at c.in_ok-gamma.ensures);
+          (rw c.of.ensures at c.params_meant.ensures) c.of-2.ensures
+          (c.of-3.ensures ∙ rw c.items-free.ensures at c.in_ok-alpha.ensures)
+          (c.of-4.ensures ∙ rw c.items-free.ensures at c.in_ok-beta.ensures)
+          (c.of-5.ensures ∙ rw c.items-free.ensures at c.in_ok-gamma.ensures);
     }

@@ -9,6 +9,4 @@ returns-in_err-log_use-in-Use-clause-taken g c =
     let p = err_from_is_err_and c.from_residual.result c.from_residual.ensures.1 in
     rw (p.1, p.2, c.in-Use.is)
     (use_lost c.in_err-log_use-in-Use.field-0.0 c.args.names.now (state_seen c.args.self.now) (spelt_seen c.in-Use.term)
-    c.in-Use.alpha.items c.in-Use.beta.items c.in-Use.gamma.items
-    (rw (c.deref-in-Use.ensures.value, c.deref-in-Use-2.ensures.value, c.deref-in-Use-3.ensures.value)
-    at c.in_err-log_use-in-Use.ensures))
+    c.in-Use.alpha c.in-Use.beta c.in-Use.gamma c.in_err-log_use-in-Use.ensures)
