@@ -78,7 +78,7 @@ module _ (c : Account) (p : Program) (straight : IsStraight c p) (rank : p.rank 
       refused_for d same r a bad (e ∙ ap (λ (n : Names). proof_refused (refusal_line n r)) named)
 
   -- the verdict of an accepted proof is that on the conclusion
-  bytes_decide : (bytes : List ℕ) (a : Answer) → polynomial_of p ≡ conclusion_polynomial c → IsProofText c bytes told
+  pub bytes_decide : (bytes : List ℕ) (a : Answer) → polynomial_of p ≡ conclusion_polynomial c → IsProofText c bytes told
       → ProgramDecides p told a → BytesDecide bytes c a
   bytes_decide bytes a concludes text decides =
       let names = names_of c in

@@ -140,7 +140,7 @@ module _ (options : Options) (c e : Account) where
           ∙ ap (λ (ls : List (List ℕ)). codes "first" ∷ (polynomial_lines (names_of c) f
           ++ ((codes "second" ∷ ls) ++ equal_word (same_terms f g) ∷ []))) (end_of_run options e g also)
 
-      decides : PairDecides c e (comparison options c e)
+      pub decides : PairDecides c e (comparison options c e)
       decides = record {
         alike = alike;
         first = f;

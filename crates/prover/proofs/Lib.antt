@@ -30,3 +30,9 @@ pub mod WrittenAnswers
 pub mod RunEnds
 pub mod RunLines
 pub mod Comparisons
+pub mod ConstructionRuns
+pub mod VerdictCauses
+pub mod ProveCauses
+pub mod CheckCauses
+pub mod SameCauses
+pub mod StatusCauses

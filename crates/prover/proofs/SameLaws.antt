@@ -43,7 +43,7 @@ module _ (options : Options) where
     one_short =
         one_part (codes "first ") first (λ c a. IsSecondAnswer options c second a) (λ c gives. one_second c second)
 
-    long_or_both : IsOneLong first second ⊎ AreShort first second
+    pub long_or_both : IsOneLong first second ⊎ AreShort first second
     long_or_both = elim (cases_lt 1048576 (length first)) [
       | inl long ↦ inl (inl long)
       | inr few ↦ (elim (cases_lt 1048576 (length second)) [ inl long ↦ inl (inr long) | inr more ↦ inr (few, more) ])

@@ -63,7 +63,7 @@ pub zero_end : (log : Log) (end : BracketPolynomial) → LastEnds log end → en
 zero_end log end e = ap tests (end_of log end e)
 
 -- and its last section is well ended
-well_ended : (d : ℕ) (log : Log) (end : BracketPolynomial) → AllEndWell d log.objects → LastEnds log end → IsNormal d 64 end
+pub well_ended : (d : ℕ) (log : Log) (end : BracketPolynomial) → AllEndWell d log.objects → LastEnds log end → IsNormal d 64 end
 well_ended d log end all e =
     let object : Worked = record { number = e.number; step = e.step; sections = e.section ∷ [] } in
     let each : AllByRecursion (λ (o : Worked). AllByRecursion (EndsWell d) o.sections) (e.front ++ object ∷ []) =

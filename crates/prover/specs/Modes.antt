@@ -5,13 +5,13 @@ use Rattle.cayley_run.specs.declared.answer.Options.{Options}
 use Rattle.prover.specs.declared.mode.Mode.{Mode}
 use Rattle.prover.specs.declared.mode.Mode.TheVariants as mode
 use Rattle.prover.specs.declared.status.Status.{Status}
-use Rattle.prover.specs.declared.status.Status.TheVariants.{Done, Stopped, ProofRefused, Unlike}
+use Rattle.prover.specs.declared.status.Status.TheVariants.{Done, Usage, TextRefused, Stopped, ProofRefused, Unlike}
 use Rattle.prover.specs.Answer.{Answer, IsVerdict, usage, refused}
 use Rattle.prover.specs.Words.{GiveOptions}
-use Rattle.prover.specs.Modes.Prove.{IsProveAnswer, ProveDecides}
-use Rattle.prover.specs.Modes.Check.{IsCheckAnswer, CheckDecides}
-use Rattle.prover.specs.Modes.Same.{IsSameAnswer, SameDecides}
-use Rattle.prover.specs.Modes.Sample.{sample_options, sample_answer, SampleDecides}
+use Rattle.prover.specs.Modes.Prove.{IsProveAnswer, IsProveCause, ProveDecides}
+use Rattle.prover.specs.Modes.Check.{IsCheckAnswer, IsCheckCause, CheckDecides}
+use Rattle.prover.specs.Modes.Same.{IsSameAnswer, IsSameCause, SameDecides}
+use Rattle.prover.specs.Modes.Sample.{sample_options, sample_answer, IsSampleCause, SampleDecides}
 pub mod Prove
 pub mod Check
 pub mod Same
@@ -60,6 +60,13 @@ IsModeAnswer (mode.Prove options) input answer = IsProveAnswer options input ans
 IsModeAnswer mode.Check input answer = IsCheckAnswer input answer
 IsModeAnswer (mode.Same options) input answer = IsSameAnswer options input answer
 IsModeAnswer (mode.Sample number budget) input answer = answer ≡ sample_answer number budget
+
+-- why such an input gives it this status
+abbrev pub IsModeCause : Mode → List ℕ → Status → Type 0
+IsModeCause (mode.Prove options) input status = IsProveCause options input status
+IsModeCause mode.Check input status = IsCheckCause input status
+IsModeCause (mode.Same options) input status = IsSameCause options input status
+IsModeCause (mode.Sample number budget) input status = IsSampleCause number budget status
 
 -- the statuses with which it decides, and what that means
 abbrev pub IsDecision : Mode → Status → Type 0
@@ -110,3 +117,21 @@ IsInputAnswer m input answer =
 abbrev pub IsAnswer : List (List ℕ) → List ℕ → Answer → Type 0
 IsAnswer words input answer =
     (IsUsage words × (answer ≡ usage)) ⊎ ((m : Mode) × IsMode words m × IsInputAnswer m input answer)
+
+-- ---- causes
+
+-- why an input gives a mode this status
+abbrev pub IsInputCause : Mode → List ℕ → Status → Type 0
+IsInputCause m input status =
+    (IsTooLong m input × (status ≡ TextRefused)) ⊎ (IsShort m input × IsModeCause m input status)
+
+-- why the words and the whole input have this status
+abbrev pub IsCause : List (List ℕ) → List ℕ → Status → Type 0
+IsCause words input status =
+    (IsUsage words × (status ≡ Usage)) ⊎ ((m : Mode) × IsMode words m × IsInputCause m input status)
+
+-- the status of an answer is the one that has a cause
+abbrev pub StatusHasCause : Type 0
+StatusHasCause =
+    (words : List (List ℕ)) (input : List ℕ) (a : Answer) (status : Status) → IsAnswer words input a
+    → (a.status ≡ status → IsCause words input status) × (IsCause words input status → a.status ≡ status)

@@ -10,7 +10,7 @@ use Rattle.prover.specs.declared.mode.Mode.{Mode}
 use Rattle.prover.specs.declared.status.Status.{Status}
 use Rattle.prover.specs.declared.status.Status.TheVariants.{ReadFault, WriteFault, Memory}
 use Rattle.prover.specs.Answer.{Answer}
-use Rattle.prover.specs.Modes.{IsAnswer, IsModeAnswer, IsInputAnswer, IsDecision, Decides, IsMode}
+use Rattle.prover.specs.Modes.{IsAnswer, IsCause, IsModeAnswer, IsInputAnswer, IsDecision, Decides, IsMode}
 
 -- the whole input: what the source had left, where it told it
 abbrev pub IsInput : Option (List ℕ) → List ℕ → Type 0
@@ -81,3 +81,23 @@ pub record Answers (words : List (List ℕ)) (left before after : Option (List �
   pub is_answer : IsAnswer words input answer
   pub writes : Writes answer status before after
   pub decides : (m : Mode) → IsMode words m → IsDecision m status → Decides m input answer
+
+-- it ended for a fault or for want of memory
+abbrev pub IsBrokenOff : Status → Type 0
+IsBrokenOff result = (result ≡ ReadFault) ⊎ (result ≡ WriteFault) ⊎ (result ≡ Memory)
+
+-- it answers this status only where there is a cause of it in the words and the input, and wherever there is one, but for
+-- a fault and for want of memory
+pub record ComesExactly (words : List (List ℕ)) (left : Option (List ℕ)) (result status : Status) : Type 0 where
+  pub input : List ℕ
+  pub is_input : IsInput left input
+  pub only : result ≡ status → IsCause words input status
+  pub wherever : IsCause words input status → (result ≡ status) ⊎ IsBrokenOff result
+
+-- it answers the whole answer, or that memory was wanting
+pub record IsComplete (words : List (List ℕ)) (left before after : Option (List ℕ)) (result : Status) : Type 0 where
+  pub input : List ℕ
+  pub is_input : IsInput left input
+  pub answer : Answer
+  pub is_answer : IsAnswer words input answer
+  pub whole : (result ≡ Memory) ⊎ ((result ≡ answer.status) × Gains before after (text_of answer.lines))

@@ -1,5 +1,5 @@
 -- Runs of constructions, and with what they end.
-use Rattle.std.specs.Prelude.{ℕ, ◌-◌, ◌==◌, Bool, false, List, length, map, zip, slice_get, Option, Some, None}
+use Rattle.std.specs.Prelude.{◌≡◌, ℕ, ◌-◌, ◌==◌, Bool, false, List, length, map, zip, slice_get, Option, Some, None}
 use Rattle.coordinate_model.specs.BracketPolynomial.{BracketPolynomial}
 use Rattle.construction_reader.specs.Said.{Account}
 use Rattle.cayley_terms.specs.declared.instr.Instr.{Instr}
@@ -21,6 +21,14 @@ instructions c =
 -- the run of a construction
 abbrev pub log_of : Options → Account → Log
 log_of options c = run_on c.rank (at_start options) (instructions c)
+
+-- it stops
+abbrev pub Stops : Options → Account → Type 0
+Stops options c = (stop : turns.Stop) × ((log_of options c).stop ≡ Some stop)
+
+-- it comes to the end
+abbrev pub ComesToEnd : Options → Account → Type 0
+ComesToEnd options c = (log_of options c).stop ≡ None
 
 -- the last one
 abbrev pub last_of : {A : Type 0} → List A → Option A

@@ -17,6 +17,6 @@ mod status;
 mod steps;
 mod words;
 
-pub use laws::{one_answer, one_cut};
+pub use laws::{causes, one_answer, one_cut};
 pub use running::run;
 pub use status::Status;

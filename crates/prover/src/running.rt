@@ -4,9 +4,10 @@ ghost use Rattle.std.specs.Prelude.{◌≡◌, ◌≢◌, ◌≤◌, ◌⊎◌, 
 ghost use Rattle.cay_base.specs.Causes.{Rose};
 ghost use Rattle.prover.specs.Answer.{usage, refused};
 ghost use Rattle.prover.specs.Modes.{IsMode, IsUsage, IsUnread, IsReadToEnd, HasNumber, longest_input};
-ghost use Rattle.prover.specs.Outcome.{Answers, ModeAnswers, Written};
+ghost use Rattle.prover.specs.Outcome.{Answers, ComesExactly, IsComplete, ModeAnswers, Written};
 
 use crate::ending::status_of;
+use crate::laws;
 use crate::mode::Mode;
 use crate::modes::tell;
 use crate::parts::put_long;
@@ -30,6 +31,18 @@ pub fn run<S: Source, K: Sink>(
     ensures answers { Answers (map string_bytes words.now) (S.left source.old)
         (K.held sink.old) (K.held sink.new) result }
 
+    ensures proved { ComesExactly (map string_bytes words.now) (S.left source.old) result Status.Proved }
+    ensures refuted { ComesExactly (map string_bytes words.now) (S.left source.old) result Status.Refuted }
+    ensures done { ComesExactly (map string_bytes words.now) (S.left source.old) result Status.Done }
+    ensures text_refused { ComesExactly (map string_bytes words.now) (S.left source.old) result Status.TextRefused }
+    ensures stopped { ComesExactly (map string_bytes words.now) (S.left source.old) result Status.Stopped }
+    ensures proof_refused { ComesExactly (map string_bytes words.now) (S.left source.old) result Status.ProofRefused }
+    ensures unlike { ComesExactly (map string_bytes words.now) (S.left source.old) result Status.Unlike }
+    ensures usage_alone { ComesExactly (map string_bytes words.now) (S.left source.old) result Status.Usage }
+    ensures complete { (Rose (S.faults source.old) (S.faults source.new) → ⊥)
+        → (Rose (K.faults sink.old) (K.faults sink.new) → ⊥)
+        → IsComplete (map string_bytes words.now) (S.left source.old) (K.held sink.old) (K.held sink.new) result }
+
     ensures usage { IsUsage (map string_bytes words.now) → (result ≡ Status.Usage) ⊎ (result ≡ Status.WriteFault) }
     ensures unread { IsUnread (map string_bytes words.now) → source.new ≡ source.old }
     ensures to_the_end { (m : Mode) → IsMode (map string_bytes words.now) m → IsReadToEnd m result
@@ -41,6 +54,7 @@ pub fn run<S: Source, K: Sink>(
         × (result ≢ Status.WriteFault → K.faults sink.new ≡ K.faults sink.old) }
     ensures later { (S.faults source.old ≤ S.faults source.new) × (K.faults sink.old ≤ K.faults sink.new) }
 {
+    laws::causes();
     match mode_of(words) {
         Some(mode) => run_mode(alloc, mode, source, sink),
         None => write_usage(sink),

@@ -16,12 +16,14 @@ use Rattle.log_checker.specs.declared.refusal.ProofRefusal.{ProofRefusal}
 use Rattle.log_checker.specs.Accepted.{IsProofAccepted}
 use Rattle.log_checker.specs.ProofLaws.{Concludes}
 use Rattle.log_checker.specs.ProofRefused.{IsProofRefused}
-use Rattle.prover.specs.declared.status.Status.TheVariants.{Proved, Refuted, ProofRefused}
+use Rattle.prover.specs.declared.parts.Fault.{Fault}
+use Rattle.prover.specs.declared.status.Status.{Status}
+use Rattle.prover.specs.declared.status.Status.TheVariants.{Proved, Refuted, TextRefused, ProofRefused}
 use Rattle.prover.specs.Answer.{Answer, refused}
 use Rattle.prover.specs.Checked.{claims_read, IsProofText, IsProofFault, IsAcceptedFor, IsRefusedFor}
 use Rattle.prover.specs.Cuts.{IsCut}
 use Rattle.prover.specs.Modes.Prove.{verdict}
-use Rattle.prover.specs.Parts.{Gives, IsPart}
+use Rattle.prover.specs.Parts.{Gives, IsFault, IsPart}
 use Rattle.prover.specs.Refusals.{fault_line, refusal_line}
 use Rattle.prover.specs.Runs.{last_end}
 
@@ -73,6 +75,38 @@ pub record IsCheckAnswer (input : List ℕ) (answer : Answer) : Type 0 where
   pub bytes : List ℕ
   pub cut : IsCut separator input text bytes
   pub answers : IsTextAnswer text bytes answer
+
+-- ---- the causes of the statuses
+
+-- the bytes are the text of a proof that is accepted for the construction
+abbrev pub AreAccepted : Account → List ℕ → Type 0
+AreAccepted c bytes = (p : Told) × IsProofText c bytes p × IsAcceptedFor c p
+
+-- they are the text of none, or of one that is refused
+abbrev pub AreRefused : Account → List ℕ → Type 0
+AreRefused c bytes =
+    ((fault : ProofFault) × IsProofFault c bytes fault)
+    ⊎ ((p : Told) × IsProofText c bytes p × (r : ProofRefusal c.rank) × IsRefusedFor c p r)
+
+-- The text is too long or has a fault; or it gives a construction, and the bytes behind it are refused, or accepted, and
+-- the conclusion's polynomial is zero, or it is not.
+abbrev pub IsTextCause : List ℕ → List ℕ → Status → Type 0
+IsTextCause text bytes TextRefused = (1048576 < length text) ⊎ ((f : Fault) × IsFault text f)
+IsTextCause text bytes ProofRefused = (length text ≤ 1048576) × (c : Account) × Gives text c × AreRefused c bytes
+IsTextCause text bytes Proved =
+    (length text ≤ 1048576) × (c : Account) × Gives text c × AreAccepted c bytes
+    × (conclusion_polynomial c ≡ Polynomials.𝟘)
+IsTextCause text bytes Refuted =
+    (length text ≤ 1048576) × (c : Account) × Gives text c × AreAccepted c bytes
+    × (conclusion_polynomial c ≢ Polynomials.𝟘)
+IsTextCause text bytes status = ⊥
+
+-- the input is cut into such a text and such bytes
+pub record IsCheckCause (input : List ℕ) (status : Status) : Type 0 where
+  pub text : List ℕ
+  pub bytes : List ℕ
+  pub cut : IsCut separator input text bytes
+  pub cause : IsTextCause text bytes status
 
 -- ---- the verdict
 

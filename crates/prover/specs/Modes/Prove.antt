@@ -16,10 +16,11 @@ use Rattle.proof_text.specs.Forms.{verdict_word, stop_line}
 use Rattle.proof_text.specs.Proofs.{head_lines, object_lines}
 use Rattle.proof_text.specs.Terms.{polynomial_lines}
 use Rattle.prover.specs.declared.status.Status.{Status}
-use Rattle.prover.specs.declared.status.Status.TheVariants.{Proved, Refuted, Stopped}
+use Rattle.prover.specs.declared.status.Status.TheVariants.{Proved, Refuted, TextRefused, Stopped}
+use Rattle.prover.specs.declared.parts.Fault.{Fault}
 use Rattle.prover.specs.Answer.{Answer}
-use Rattle.prover.specs.Parts.{Gives, IsPart}
-use Rattle.prover.specs.Runs.{log_of, ends_in_zero, is_zero, stop_kind}
+use Rattle.prover.specs.Parts.{Gives, IsFault, IsPart}
+use Rattle.prover.specs.Runs.{log_of, Stops, ComesToEnd, ends_in_zero, is_zero, stop_kind}
 
 -- ---- the answer
 
@@ -50,6 +51,19 @@ proof_answer options c = let log = log_of options c in proof (names_of c) log.ob
 -- the answer to a text
 abbrev pub IsProveAnswer : Options → List ℕ → Answer → Type 0
 IsProveAnswer options text answer = IsPart [] text (λ c answer. answer ≡ proof_answer options c) answer
+
+-- ---- the causes of the statuses
+
+-- The text has a fault; or it gives a construction whose run stops, or comes to the end, and the conclusion's polynomial is
+-- zero, or it is not.
+abbrev pub IsProveCause : Options → List ℕ → Status → Type 0
+IsProveCause options text TextRefused = (f : Fault) × IsFault text f
+IsProveCause options text Stopped = (c : Account) × Gives text c × Stops options c
+IsProveCause options text Proved =
+    (c : Account) × Gives text c × ComesToEnd options c × (conclusion_polynomial c ≡ Polynomials.𝟘)
+IsProveCause options text Refuted =
+    (c : Account) × Gives text c × ComesToEnd options c × (conclusion_polynomial c ≢ Polynomials.𝟘)
+IsProveCause options text status = ⊥
 
 -- ---- the verdict
 

@@ -1,5 +1,5 @@
 -- The mode that compares the conclusions of two texts.
-use Rattle.std.specs.Prelude.{◌≡◌, ◌<◌, ◌≤◌, ◌⊎◌, ℕ, Bool, true, false, List, [], ◌∷◌, ◌++◌, length, codes}
+use Rattle.std.specs.Prelude.{◌≡◌, ◌≢◌, ◌<◌, ◌≤◌, ◌⊎◌, ℕ, Bool, true, false, List, [], ◌∷◌, ◌++◌, length, codes}
 use Rattle.std.specs.Prelude.{Option, Some, None, Decides}
 use Rattle.coordinate_model.specs.BracketPolynomial.{BracketPolynomial, IsNormal, value}
 use Rattle.construction_reader.specs.Said.{Account}
@@ -12,14 +12,16 @@ use Rattle.cayley_run.specs.Runs.{Log}
 use Rattle.proof_text.specs.Forms.{stop_line}
 use Rattle.proof_text.specs.Terms.{polynomial_lines}
 use Rattle.prover.specs.declared.difference.Difference.{Difference}
+use Rattle.prover.specs.declared.parts.Fault.{Fault}
+use Rattle.prover.specs.declared.status.Status.{Status}
 use Rattle.prover.specs.declared.status.Status.TheVariants as status
 use Rattle.prover.specs.Alike.{AreAlike, IsFirstDifference, difference_word}
 use Rattle.prover.specs.Answer.{Answer, refused}
 use Rattle.prover.specs.Cuts.{IsCut, behind_separator}
 use Rattle.prover.specs.Ends.{same_ends}
 use Rattle.prover.specs.Modes.Prove.{verdict}
-use Rattle.prover.specs.Parts.{Gives, IsPart}
-use Rattle.prover.specs.Runs.{log_of, last_end, stop_kind}
+use Rattle.prover.specs.Parts.{Gives, IsFault, IsPart}
+use Rattle.prover.specs.Runs.{log_of, Stops, ComesToEnd, last_end, stop_kind}
 
 -- ---- the two texts
 
@@ -116,6 +118,50 @@ pub record IsSameAnswer (options : Options) (input : List ℕ) (answer : Answer)
   pub second : List ℕ
   pub texts : AreTexts input first second
   pub is : IsTextsAnswer options first second answer
+
+-- ---- the causes of the statuses
+
+-- the texts are not too long, and give these constructions
+pub record GiveBoth (first second : List ℕ) (c e : Account) : Type 0 where
+  pub short : AreShort first second
+  pub first_gives : Gives first c
+  pub second_gives : Gives second e
+
+-- and the constructions can be compared
+pub record GiveAlike (first second : List ℕ) (c e : Account) : Type 0 where
+  pub both : GiveBoth first second c e
+  pub alike : AreAlike (names_of c) (names_of e)
+
+-- and their runs come to the end
+pub record CompareAtEnd (options : Options) (first second : List ℕ) (c e : Account) : Type 0 where
+  pub texts : GiveAlike first second c e
+  pub first_ends : ComesToEnd options c
+  pub second_ends : ComesToEnd options e
+
+-- One of the texts is too long or has a fault; or they give constructions that differ in rank, free names or parameters, or
+-- of which one has a run that stops, or whose conclusions have the same polynomial, or have not.
+abbrev pub IsTextsCause : Options → List ℕ → List ℕ → Status → Type 0
+IsTextsCause options first second status.TextRefused =
+    IsOneLong first second ⊎ ((f : Fault) × IsFault first f) ⊎ ((f : Fault) × IsFault second f)
+IsTextsCause options first second status.Unlike =
+    (c : Account) × (e : Account) × GiveBoth first second c e
+    × (difference : Difference) × IsFirstDifference (names_of c) (names_of e) difference
+IsTextsCause options first second status.Stopped =
+    (c : Account) × (e : Account) × GiveAlike first second c e × (Stops options c ⊎ Stops options e)
+IsTextsCause options first second status.Proved =
+    (c : Account) × (e : Account) × CompareAtEnd options first second c e
+    × (conclusion_polynomial c ≡ conclusion_polynomial e)
+IsTextsCause options first second status.Refuted =
+    (c : Account) × (e : Account) × CompareAtEnd options first second c e
+    × (conclusion_polynomial c ≢ conclusion_polynomial e)
+IsTextsCause options first second other = ⊥
+
+-- the input is cut into such texts
+pub record IsSameCause (options : Options) (input : List ℕ) (status : Status) : Type 0 where
+  pub first : List ℕ
+  pub second : List ℕ
+  pub texts : AreTexts input first second
+  pub cause : IsTextsCause options first second status
 
 -- ---- the verdict
 

@@ -49,6 +49,12 @@ log_answer number log =
 abbrev pub sample_answer : ℕ → ℕ → Answer
 sample_answer number budget = log_answer number (sample_log number budget)
 
+-- the run stops, or comes to the end
+abbrev pub IsSampleCause : ℕ → ℕ → Status → Type 0
+IsSampleCause number budget Stopped = (stop : turns.Stop) × ((sample_log number budget).stop ≡ Some stop)
+IsSampleCause number budget Done = (sample_log number budget).stop ≡ None
+IsSampleCause number budget status = ⊥
+
 -- Where the run ended, the terms that are counted are those of the one normal polynomial whose value is that of the
 -- sample's conclusion, and the last line says whether that is zero.
 pub record SampleDecides (number : ℕ) (answer : Answer) : Type 0 where
