@@ -4,6 +4,7 @@ ghost use Rattle.std.specs.Prelude.{◌≤◌};
 
 use crate::directive::Part;
 use crate::escapes::unescaped;
+use crate::tally::Change;
 use crate::view::View;
 use std::alloc::{AllocError, Global};
 
@@ -27,6 +28,8 @@ pub struct Case {
     pub input: Vec<u8>,
     pub plan: Plan,
     pub views: Vec<View>,
+    /// What is changed in turn, where that is shown in place of the output.
+    pub change: Option<Change>,
 }
 
 impl Case {
@@ -42,6 +45,7 @@ impl Case {
                 sink_fails: Vec::new(alloc),
             },
             views: Vec::new(alloc),
+            change: None,
         })
     }
 
@@ -70,6 +74,7 @@ impl Case {
             Part::FailSource(call) => self.plan.source_fails.push(call)?,
             Part::FailSink(call) => self.plan.sink_fails.push(call)?,
             Part::Show(words) => return self.add_view(alloc, words),
+            Part::Each(change) => self.change = Some(change),
         }
         Ok(true)
     }

@@ -1,5 +1,7 @@
 //! One line of the cases.
 
+use crate::tally::Change;
+
 /// What a line says.
 #[derive(Clone, Copy, Debug)]
 pub enum Directive<'a> {
@@ -30,6 +32,8 @@ pub enum Part<'a> {
     FailSink(u32),
     /// This of the output is shown.
     Show(&'a str),
+    /// What the answers come to where this is changed in turn is shown.
+    Each(Change),
 }
 
 impl<'a> Directive<'a> {
@@ -56,6 +60,7 @@ fn part_of<'a>(word: &str, rest: &'a str) -> Option<Part<'a>> {
         "pieces" => pieces(rest),
         "fail" => failure(rest),
         "show" => Some(Part::Show(rest)),
+        "each" => Some(Part::Each(change(rest)?)),
         _ => None,
     }
 }
@@ -82,6 +87,25 @@ fn failure(rest: &str) -> Option<Part<'_>> {
     match port {
         "source" => Some(Part::FailSource(call)),
         "sink" => Some(Part::FailSink(call)),
+        _ => None,
+    }
+}
+
+/// What is changed in turn.
+fn change(rest: &str) -> Option<Change> {
+    match rest.split_once(' ') {
+        Some(("cut", from)) => Some(Change::Cut(from.parse::<usize>().ok()?)),
+        Some(("zero", from)) => Some(Change::Zero(from.parse::<usize>().ok()?)),
+        Some(_) => None,
+        None => port(rest),
+    }
+}
+
+/// Whose calls fail in turn.
+fn port(word: &str) -> Option<Change> {
+    match word {
+        "source" => Some(Change::Source),
+        "sink" => Some(Change::Sink),
         _ => None,
     }
 }

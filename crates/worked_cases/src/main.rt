@@ -8,6 +8,7 @@ mod error;
 mod escapes;
 mod reading;
 mod report;
+mod tally;
 mod view;
 
 use cay_base::{Sink, Source, StdSink, StdSource, read_all};
