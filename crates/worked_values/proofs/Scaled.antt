@@ -2,7 +2,7 @@
 use Rattle.std.specs.Prelude.{◌≡◌, ◌≢◌, ℕ, ◌+◌, ◌==◌, cond, ◌<◌, ◌≤◌, true, false, List, [], ◌∷◌, ℤ, pos, negsuc, zero, suc}
 use Rattle.std.specs.List.{AllByRecursion}
 use Rattle.std.proofs.lemmas.Bool.{false_from_ne_true, eqb-true}
-use Rattle.std.proofs.Common.{refl, sym, ap, ap₂, subst, ◌∙◌, arith, lit≤}
+use Rattle.std.proofs.Common.{refl, sym, ap, subst, ◌∙◌, arith, lit≤}
 use Rattle.coordinate_model.specs.Sequences.{IsRank}
 use Rattle.coordinate_model.specs.Sums.{Terms}
 use Rattle.coordinate_model.specs.Key.{Key, key_cmp}
@@ -22,7 +22,7 @@ use Rattle.bracket_poly.specs.declared.value.Value.{Value}
 use Rattle.shuffle_meet.specs.Sizes.{IsWithin}
 use Rattle.shuffle_meet.specs.Objects.{AreJoined, AreMet, ProductsFit, ParameterFits, AddsSizes, rows_of_join}
 use Rattle.shuffle_meet.proofs.ObjectSizes.{products_fit, parameter_fits}
-use Rattle.worked_values.specs.Objects.{AreBelow, unit_key, number, IsNumber, IsScaled}
+use Rattle.worked_values.specs.Objects.{unit_key, number, IsNumber, IsScaled}
 
 number_terms : (c : ℤ) → c ≢ pos 0 → (number c).sum.terms ≡ (unit_key, c) ∷ []
 number_terms (pos zero) h = absurd (h refl)
@@ -65,50 +65,38 @@ module _ {d : ℕ} (x : Extensor) (w : TrackedOf d) (es : List (Extensor × Trac
         small = all_replicate (λ x. x ≤ 0) 64 0 (lit≤ tt);
       }
 
--- the steps of what is joined and of what meets
-module _ {d : ℕ} (m n : ℕ) (a b : Value d) (h : IsScaled m a) (k : IsScaled n b) where
-  pub are_joined : AreBelow m n d → m + n ≤ d → AreJoined d a.step b.step
-  are_joined s v =
-      let x : 1 ≤ m = s.first in
-      let y : 1 ≤ n = s.second in
-      let z : m < d = s.first_below in
-      let w : n < d = s.second_below in
-      let e : a.step ≡ m = h.of_step in
-      let f : b.step ≡ n = k.of_step in
-      record { first = omega arith; second = omega arith; first_below = omega arith; second_below = omega arith; few = omega arith }
+-- what two objects give
+module _ {d : ℕ} (a b : Value d) (h : IsScaled a) (k : IsScaled b) where
+  pub are_joined : a.step + b.step ≤ d → AreJoined d a.step b.step
+  are_joined few =
+      record { first = h.least; second = k.least; first_below = h.below; second_below = k.below; few = few }
 
-  pub are_met : AreBelow m n d → d ≤ m + n → AreMet d a.step b.step
-  are_met s v =
-      let x : 1 ≤ m = s.first in
-      let y : 1 ≤ n = s.second in
-      let z : m < d = s.first_below in
-      let w : n < d = s.second_below in
-      let e : a.step ≡ m = h.of_step in
-      let f : b.step ≡ n = k.of_step in
-      record { first = omega arith; second = omega arith; first_below = omega arith; second_below = omega arith; many = omega arith }
+  pub are_met : d ≤ a.step + b.step → AreMet d a.step b.step
+  are_met many =
+      record { first = h.least; second = k.least; first_below = h.below; second_below = k.below; many = many }
 
   pub numbers_fit : ProductsFit a b
   numbers_fit = products_fit d 256 0 0 0 0 0 a b (lit≤ tt) h.numbers k.numbers
 
-  pub scaled_join : (c : Value d) → m + n < d → c.step ≡ a.step + b.step → AddsSizes (rows_of_join a b) a b c → IsScaled (m + n) c
+  pub scaled_join : (c : Value d) → a.step + b.step < d → c.step ≡ a.step + b.step → AddsSizes (rows_of_join a b) a b c → IsScaled c
   scaled_join c below step sizes = record {
-    of_step = step ∙ ap₂ (λ x y. x + y) h.of_step k.of_step;
+    least = (let x : 1 ≤ a.step = h.least in let e : c.step ≡ a.step + b.step = step in omega arith);
+    below = subst (λ n. n < d) (sym step) below;
     numbers =
-        subst (λ (x : ℕ). IsWithin 256 0 x 0 c.entries)
-        (ap₂ (λ x y. 0 + 0 + cond (x + y == d) 1 0) h.of_step k.of_step ∙ ap (λ t. 0 + 0 + cond t 1 0) no_bracket)
+        subst (λ (x : ℕ). IsWithin 256 0 x 0 c.entries) (ap (λ t. 0 + 0 + cond t 1 0) no_bracket)
         (sizes 256 0 0 0 0 0 h.numbers k.numbers).0;
   }
     where
-      no_bracket : (m + n == d) ≡ false
-      no_bracket = false_from_ne_true _ (λ t. let e : m + n ≡ d = eqb-true (m + n) d t in absurd (omega arith))
+      no_bracket : (a.step + b.step == d) ≡ false
+      no_bracket = false_from_ne_true _ (λ t. let e : a.step + b.step ≡ d = eqb-true (a.step + b.step) d t in absurd (omega arith))
 
-pub parameter_fits_number : {d : ℕ} (s m : ℕ) (a : Value d) → IsScaled m a → ParameterFits s a
-parameter_fits_number {d} s m a h = parameter_fits d 256 0 0 0 s a (lit≤ tt) h.numbers
+pub parameter_fits_number : {d : ℕ} (s : ℕ) (a : Value d) → IsScaled a → ParameterFits s a
+parameter_fits_number {d} s a h = parameter_fits d 256 0 0 0 s a (lit≤ tt) h.numbers
 
 -- weights have no degree
-pub numbers_small : {d m : ℕ} (v : Value d) → IsScaled m v → AllByRecursion IsSmall v.entries
-numbers_small v h =
+pub numbers_small : {d : ℕ} (es : List (Extensor × TrackedOf d)) → IsWithin 256 0 0 0 es → AllByRecursion IsSmall es
+numbers_small es h =
     all_so (EntryWithin 256 0 0 0) IsSmall
     (λ e w. all_so (λ t. KeyWithin 256 0 0 0 t.0) (λ t. AllByRecursion (λ x. x ≤ 1000) t.0.exponents)
     (λ t k. all_so (λ x. x ≤ 0) (λ x. x ≤ 1000) (λ x low. omega arith) t.0.exponents k.small) e.1.tracked.sum.terms w.keys)
-    v.entries h.numbers
+    es h

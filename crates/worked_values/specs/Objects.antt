@@ -19,14 +19,8 @@ pub record IsNumber {d : ℕ} (p : TrackedOf d) : Type 0 where
   pub not_zero : value ≢ pos 0
   pub is : p.tracked ≡ number value
 
--- two steps of objects in rank d
-pub record AreBelow (m n d : ℕ) : Type 0 where
-  pub first : 1 ≤ m
-  pub second : 1 ≤ n
-  pub first_below : m < d
-  pub second_below : n < d
-
--- an object of this step whose polynomials are whole numbers
-pub record IsScaled {d : ℕ} (step : ℕ) (v : Value d) : Type 0 where
-  pub of_step : v.step ≡ step
+-- a point, a line or a plane whose polynomials are whole numbers
+pub record IsScaled {d : ℕ} (v : Value d) : Type 0 where
+  pub least : 1 ≤ v.step
+  pub below : v.step < d
   pub numbers : IsWithin 256 0 0 0 v.entries

@@ -1,25 +1,18 @@
-//! Why not all values were shown.
+//! Why a line has no other answer.
 use bracket_poly::PolyError;
 use cay_base::NoMemory;
 use std::alloc::{AllocError, AllocFailed};
-use std::io;
 
-#[derive(Clone, Copy, Debug, PartialEq, Eq)]
+#[derive(Clone, Copy)]
 pub enum Failure {
+    /// The lines cannot be read, or an answer cannot be written.
+    Stream,
+    /// The line is of no form, or its numbers are none that the call takes.
+    Line,
     /// There is no memory.
     Memory,
-    /// Nothing more can be written.
-    Output,
-    /// The numbers of the line are none that the call takes.
-    Numbers,
-    /// A polynomial would pass a limit.
+    /// A polynomial would pass a limit, which is the answer.
     Limit(PolyError),
-}
-
-impl From<io::Error> for Failure {
-    fn from(_: io::Error) -> Self {
-        Failure::Output
-    }
 }
 
 impl From<NoMemory> for Failure {
@@ -42,6 +35,9 @@ impl<T: Drop> From<AllocFailed<T>> for Failure {
 
 impl From<PolyError> for Failure {
     fn from(error: PolyError) -> Self {
-        Failure::Limit(error)
+        match error {
+            PolyError::Memory => Failure::Memory,
+            limit => Failure::Limit(limit),
+        }
     }
 }

@@ -1,144 +1,28 @@
 //! Sums and products of bracket polynomials.
-ghost use Rattle.std.specs.Prelude.{◌≤◌, IfOk, OnOk};
-ghost use Rattle.std.specs.List.{AllByRecursion};
+ghost use Rattle.std.specs.Prelude.{◌≤◌};
 ghost use Rattle.coordinate_model.specs.Sequences.{IsRank};
 ghost use Rattle.bracket_poly.specs.Products.{HasDegree};
 
-use crate::brackets::brackets;
 use crate::failure::Failure;
-use crate::printing::{print_points, print_poly, print_row};
-use bracket_poly::{Key, Poly};
-use bracket_terms::{Bracket, Params, Signed, sort};
+use crate::printing::{put_poly, put_term};
+use crate::reading::{brackets, coefficient, pair, poly, tableau};
+use bracket_poly::{ArenaPoly, Poly};
+use bracket_terms::{Bracket, Params};
+use bumpalo::Bump;
 use std::alloc::Global;
-use std::io;
-use tableau_order::Tableau;
 
-/// The greatest integer of a polynomial.
-pub const MOST: i128 = i128::MAX;
-
-/// An integer times rows, and times the parameter 0 where `param` says so.
-#[derive(Clone, Copy)]
-pub struct Term<'a, const D: usize> {
-    pub c: i128,
-    pub param: bool,
-    pub rows: &'a [[u8; D]],
-}
-
-/// An integer times rows.
-pub fn plain<const D: usize>(c: i128, rows: &[[u8; D]]) -> Term<'_, D> {
-    Term {
-        c,
-        param: false,
-        rows,
-    }
-}
-
-fn params(param: bool) -> Params
-    ensures { AllByRecursion (λ exponent. exponent ≤ 1000) result }
-{
-    if param {
-        Params::single(0)
-    } else {
-        Params::one()
-    }
-}
-
-fn key<const D: usize>(alloc: Global, term: &Term<D>) -> Result<Key<D>, Failure>
-    requires { IsRank D }
-    ensures { IfOk result (λ key. AllByRecursion (λ exponent. exponent ≤ 1000) key.exponents) }
-{
-    let brackets = brackets(alloc, term.rows)?;
-    let tableau = Tableau::from_rows(alloc, &brackets)?;
-    let params = params(term.param);
-    Ok(Key { params, tableau })
-}
-
-/// Adds the term.
-fn add<const D: usize>(alloc: Global, poly: &mut Poly<D>, term: &Term<D>) -> Result<(), Failure>
-    requires rank { IsRank D }
-    requires degree { HasDegree 1000 poly.old.tracked.sum }
-    ensures { OnOk result (HasDegree 1000 poly.new.tracked.sum) }
-{
-    if term.c == 0 || term.c == i128::MIN {
-        return Err(Failure::Numbers);
-    }
-    let key = key(alloc, term)?;
-    Ok(poly.add(key, term.c)?)
-}
-
-/// The sum of the terms.
-pub fn poly<const D: usize>(alloc: Global, terms: &[Term<D>]) -> Result<Poly<D>, Failure>
-    requires { IsRank D }
-    ensures { IfOk result (λ poly. HasDegree 1000 poly.tracked.sum) }
-{
-    let mut poly = Poly::new(alloc);
-    for term in terms {
-        add(alloc, &mut poly, term)?;
-    }
-    Ok(poly)
-}
-
-fn print_answer(rt: &HostRuntime, answer: Result<(), Failure>) -> Result<(), Failure> {
-    match answer {
-        Ok(()) => Ok(print!(rt; ", done")?),
-        Err(Failure::Limit(error)) => Ok(print!(rt; ", {error}")?),
-        Err(failure) => Err(failure),
-    }
-}
-
-/// Ends the line with a copy of the polynomial.
-fn print_copy<const D: usize>(rt: &HostRuntime, poly: &Poly<D>) -> Result<(), Failure>
+/// A copy of the sum of the terms.
+pub fn show_add<const D: usize>(alloc: Global, out: &mut String, words: &str) -> Result<(), Failure>
     requires { IsRank D }
 {
-    let copy = poly.copy()?;
-    print!(rt; ":")?;
-    print_poly(rt, &copy)?;
-    Ok(println!(rt; "")?)
+    let sum = poly::<D>(alloc, words)?;
+    Ok(put_poly(out, &sum.copy()?)?)
 }
 
-fn print_summand<const D: usize>(rt: &HostRuntime, term: &Term<D>) -> io::Result<()>
-    requires { IsRank D }
-{
-    print!(rt; "add {:+}", term.c)?;
-    for row in term.rows {
-        print!(rt; "[")?;
-        print_points(rt, row)?;
-        print!(rt; "]")?;
-    }
-    print!(rt; " to")
-}
-
-/// Adds one term more to the sum of the terms.
-fn show_add<const D: usize>(
-    rt: &HostRuntime,
-    terms: &[Term<D>],
-    more: &Term<D>,
-) -> Result<(), Failure>
-    requires { IsRank D }
-{
-    let mut poly = poly(rt.alloc(), terms)?;
-    print_summand(rt, more)?;
-    print_poly(rt, &poly)?;
-    print_answer(rt, add(rt.alloc(), &mut poly, more))?;
-    print_copy(rt, &poly)
-}
-
-/// Sums, and one that is too large.
-pub fn show_adds(rt: &HostRuntime) -> Result<(), Failure> {
-    show_add(rt, &[plain(MOST, &[[1, 2, 3]])], &plain(1, &[[1, 2, 3]]))?;
-    show_add(rt, &[plain(2, &[[1, 2, 3]])], &plain(-2, &[[1, 2, 3]]))?;
-    show_add(rt, &[plain(MOST, &[[1, 2]])], &plain(1, &[[1, 2]]))?;
-    show_add(rt, &[plain(3, &[[1, 3]])], &plain(4, &[[1, 2]]))?;
-    show_add(
-        rt,
-        &[plain(-MOST, &[[1, 2, 3, 4]])],
-        &plain(-1, &[[1, 2, 3, 4]]),
-    )
-}
-
-/// Takes a times b times the row away from nothing, and puts what was taken before a limit into `product`.
-fn take<const D: usize>(
-    product: &mut Poly<D>,
+/// What is left of nothing where the product of both and the row is taken away.
+fn put_taken<const D: usize>(
+    alloc: Global,
+    out: &mut String,
     a: &Poly<D>,
     b: &Poly<D>,
     row: Bracket<D>,
@@ -147,73 +31,72 @@ fn take<const D: usize>(
     requires first { HasDegree 1000 a.now.tracked.sum }
     requires second { HasDegree 1000 b.now.tracked.sum }
 {
-    Ok(product.mul_add(a, b, Some(row), -1)?)
+    let mut product = Poly::new(alloc);
+    product.mul_add(a, b, Some(row), -1)?;
+    Ok(put_poly(out, &product)?)
 }
 
-fn print_factors<const D: usize>(
-    rt: &HostRuntime,
-    a: &Poly<D>,
-    b: &Poly<D>,
-    row: &Bracket<D>,
-) -> io::Result<()>
-    requires { IsRank D }
-{
-    print!(rt; "mul_add of")?;
-    print_poly(rt, a)?;
-    print!(rt; " and")?;
-    print_poly(rt, b)?;
-    print!(rt; " by -")?;
-    print_row(rt, row)
-}
-
-fn show_product<const D: usize>(
-    rt: &HostRuntime,
-    a: &Poly<D>,
-    b: &Poly<D>,
-    row: [u8; D],
-) -> Result<(), Failure>
-    requires rank { IsRank D }
-    requires first { HasDegree 1000 a.now.tracked.sum }
-    requires second { HasDegree 1000 b.now.tracked.sum }
-{
-    let Signed::Plus(row) = sort(row) else {
-        return Err(Failure::Numbers);
-    };
-    print_factors(rt, a, b, &row)?;
-    let mut product = Poly::new(rt.alloc());
-    let answer = take(&mut product, a, b, row);
-    print_answer(rt, answer)?;
-    print_copy(rt, &product)
-}
-
-fn show_mul_add<const D: usize>(
-    rt: &HostRuntime,
-    a: &[Term<D>],
-    b: &[Term<D>],
-    row: [u8; D],
+/// Minus the product of a row and two polynomials.
+pub fn show_mul_add<const D: usize>(
+    alloc: Global,
+    out: &mut String,
+    words: &str,
 ) -> Result<(), Failure>
     requires { IsRank D }
 {
-    let first = poly(rt.alloc(), a)?;
-    let second = poly(rt.alloc(), b)?;
-    show_product(rt, &first, &second, row)
+    let (row, factors) = pair(words, ';')?;
+    let (a, b) = pair(factors, ';')?;
+    let Some(row) = brackets::<D>(alloc, row)?.first().copied() else {
+        return Err(Failure::Line);
+    };
+    let a = poly::<D>(alloc, a)?;
+    let b = poly::<D>(alloc, b)?;
+    put_taken(alloc, out, &a, &b, row)
 }
 
-/// Products, and one that is too large.
-pub fn show_mul_adds(rt: &HostRuntime) -> Result<(), Failure> {
-    let with_parameter = Term {
-        c: 1,
-        param: true,
-        rows: &[[1, 2, 5]],
-    };
-    let plane = [plain(3, &[[1, 2, 4]]), with_parameter];
-    show_mul_add(rt, &[plain(2, &[[1, 2, 3]])], &plane, [1, 2, 6])?;
-    show_mul_add(rt, &[plain(MOST, &[[1, 2, 3]])], &plane, [1, 2, 6])?;
-    show_mul_add(rt, &[plain(2, &[[1, 2]])], &[plain(3, &[[1, 3]])], [2, 3])?;
-    show_mul_add(
-        rt,
-        &[plain(2, &[[1, 2, 3, 4]])],
-        &[plain(3, &[])],
-        [1, 2, 3, 5],
-    )
+/// Adds a term over an arena, and writes the coefficient of its key.
+fn add<'a, const D: usize>(
+    alloc: Global,
+    out: &mut String,
+    poly: &mut ArenaPoly<'a, D>,
+    word: &str,
+) -> Result<(), Failure>
+    requires { IsRank D }
+{
+    let (c, _) = pair(word, '[')?;
+    let tableau = tableau::<D>(alloc, word)?;
+    poly.add(Params::one(), tableau.rows(), coefficient(c)?)?;
+    let is_placed = poly.row_view(tableau.rows()).is_some();
+    let c = poly.coefficient(&Params::one(), tableau.rows());
+    Ok(write!(out, " {is_placed} {c:+},")?)
+}
+
+/// The terms in order, and then the polynomial without its arena, and the number of row lists.
+fn finish<'a, const D: usize>(out: &mut String, poly: ArenaPoly<'a, D>) -> Result<(), Failure>
+    requires { IsRank D }
+{
+    for (params, rows, c) in poly.terms() {
+        put_term(out, c, &params, rows)?;
+    }
+    let (poly, store) = poly.finish()?;
+    out.push(',')?;
+    put_poly(out, &poly)?;
+    Ok(write!(out, ", {} row lists", store.count())?)
+}
+
+/// Lays a polynomial into an arena, and adds terms to it.
+pub fn show_arena<const D: usize>(
+    alloc: Global,
+    out: &mut String,
+    words: &str,
+) -> Result<(), Failure>
+    requires { IsRank D }
+{
+    let (start, more) = pair(words, ';')?;
+    let arena = Bump::new(alloc);
+    let mut loaded = ArenaPoly::load(&poly::<D>(alloc, start)?, &arena)?;
+    for word in more.split_whitespace() {
+        add(alloc, out, &mut loaded, word)?;
+    }
+    finish(out, loaded)
 }

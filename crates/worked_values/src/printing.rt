@@ -1,105 +1,109 @@
-//! Points, brackets, terms and values as text: the bracket of the points 1, 4 and 5 is `[145]`, the parameter 0 is `t0`, and
-//! the join of the points 1 and 2 is `12`.
+//! Points, brackets, terms, values and uses as text, in the spelling in which they are read.
 ghost use Rattle.std.specs.Prelude.{◌≤◌};
 ghost use Rattle.coordinate_model.specs.Sequences.{IsRank};
 
-use bracket_poly::{Key, Poly, Value};
-use bracket_terms::{Bracket, Extensor, LogUse, Params};
-use std::io;
+use bracket_poly::{Poly, Value};
+use bracket_terms::{Bracket, LogUse, Params};
+use std::alloc::AllocError;
 
-pub fn print_points(rt: &HostRuntime, points: &[u8]) -> io::Result<()> {
+pub fn put_points(out: &mut String, points: &[u8]) -> Result<(), AllocError> {
     for point in points {
-        print!(rt; "{point}")?;
+        out.push(*point as char)?;
     }
     Ok(())
 }
 
-pub fn print_row<const D: usize>(rt: &HostRuntime, row: &Bracket<D>) -> io::Result<()> {
-    print!(rt; "[")?;
-    print_points(rt, &row.points())?;
-    print!(rt; "]")
-}
-
-pub fn print_rows<const D: usize>(rt: &HostRuntime, rows: &[Bracket<D>]) -> io::Result<()>
+pub fn put_rows<const D: usize>(out: &mut String, rows: &[Bracket<D>]) -> Result<(), AllocError>
     requires { D ≤ 4 }
 {
     for row in rows {
-        print_row(rt, row)?;
+        out.push('[')?;
+        put_points(out, &row.points())?;
+        out.push(']')?;
     }
     Ok(())
 }
 
-pub fn print_params(rt: &HostRuntime, params: &Params) -> io::Result<()> {
+pub fn put_params(out: &mut String, params: &Params) -> Result<(), AllocError> {
     for i in 0..64 {
         let exponent = params.exponent(i);
         if exponent != 0 {
-            print!(rt; "t{i}^{exponent}")?;
+            write!(out, "t{i}^{exponent}")?;
         }
     }
     Ok(())
 }
 
-pub fn print_term<const D: usize>(rt: &HostRuntime, key: &Key<D>, c: i128) -> io::Result<()>
-    requires { IsRank D }
+/// A term behind a space.
+pub fn put_term<const D: usize>(
+    out: &mut String,
+    c: i128,
+    params: &Params,
+    rows: &[Bracket<D>],
+) -> Result<(), AllocError>
+    requires { D ≤ 4 }
 {
-    print!(rt; " {c:+}")?;
-    print_params(rt, &key.params)?;
-    print_rows(rt, key.tableau.rows())
+    write!(out, " {c:+}")?;
+    put_params(out, params)?;
+    put_rows(out, rows)
 }
 
-pub fn print_poly<const D: usize>(rt: &HostRuntime, poly: &Poly<D>) -> io::Result<()>
+/// The terms, or `zero`, behind a space.
+pub fn put_poly<const D: usize>(out: &mut String, poly: &Poly<D>) -> Result<(), AllocError>
     requires { IsRank D }
 {
     if poly.len() == 0 {
-        return print!(rt; " zero");
+        return out.push_str(" zero");
     }
     for (key, c) in poly.terms() {
-        print_term(rt, key, c)?;
+        put_term(out, c, &key.params, key.tableau.rows())?;
     }
     Ok(())
 }
 
-fn print_entry<const D: usize>(rt: &HostRuntime, entry: &(Extensor, Poly<D>)) -> io::Result<()>
+/// Each extensor in `< >` with its polynomial, behind a space, and the step.
+pub fn put_value<const D: usize>(out: &mut String, value: &Value<D>) -> Result<(), AllocError>
     requires { IsRank D }
 {
-    print!(rt; " <")?;
-    print_points(rt, &entry.0.points[..entry.0.size as usize])?;
-    print!(rt; ">")?;
-    print_poly(rt, &entry.1)
+    for entry in value.entries.items() {
+        out.push_str(" <")?;
+        put_points(out, &entry.0.points[..entry.0.size as usize])?;
+        out.push('>')?;
+        put_poly(out, &entry.1)?;
+    }
+    write!(out, " step {}", value.step)
 }
 
-pub fn print_value<const D: usize>(rt: &HostRuntime, value: &Value<D>) -> io::Result<()>
-    requires { IsRank D }
+/// The points of a syzygy, alpha, beta and gamma.
+pub fn put_syzygy(
+    out: &mut String,
+    alpha: &[u8],
+    beta: &[u8],
+    gamma: &[u8],
+) -> Result<(), AllocError> {
+    out.push_str(" {")?;
+    put_points(out, alpha)?;
+    out.push('|')?;
+    put_points(out, beta)?;
+    out.push('|')?;
+    put_points(out, gamma)?;
+    out.push('}')
+}
+
+/// Each use as its multiplier, its parameters, its rest, and the points of its syzygy.
+pub fn put_uses<const D: usize>(out: &mut String, uses: &[LogUse<D>]) -> Result<(), AllocError>
+    requires { D ≤ 4 }
 {
-    let entries = value.entries.items();
-    if entries.len() == 0 {
-        return print!(rt; " zero");
-    }
-    for entry in entries {
-        print_entry(rt, entry)?;
+    for log_use in uses {
+        out.push_str(", use")?;
+        put_term(
+            out,
+            log_use.multiplier,
+            &log_use.params,
+            log_use.rest.items(),
+        )?;
+        let alpha = log_use.alpha.items();
+        put_syzygy(out, alpha, log_use.beta.items(), log_use.gamma.items())?;
     }
     Ok(())
-}
-
-pub fn print_syzygy(rt: &HostRuntime, alpha: &[u8], beta: &[u8], gamma: &[u8]) -> io::Result<()> {
-    print!(rt; "; ")?;
-    print_points(rt, alpha)?;
-    print!(rt; "; ")?;
-    print_points(rt, beta)?;
-    print!(rt; "; ")?;
-    print_points(rt, gamma)
-}
-
-/// The use as its multiplier, its parameters, its rest, and the points of its syzygy.
-pub fn print_use<const D: usize>(rt: &HostRuntime, log_use: &LogUse<D>) -> io::Result<()> {
-    let (alpha, beta, gamma) = (
-        log_use.alpha.items(),
-        log_use.beta.items(),
-        log_use.gamma.items(),
-    );
-    let multiplier = log_use.multiplier;
-    print!(rt; ", use {multiplier:+}")?;
-    print_params(rt, &log_use.params)?;
-    print_rows(rt, log_use.rest.items())?;
-    print_syzygy(rt, alpha, beta, gamma)
 }

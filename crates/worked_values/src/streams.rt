@@ -1,46 +1,63 @@
 //! Sources and sinks in memory, and streams that fail.
-ghost use Rattle.std.specs.Prelude.{◌≤◌};
-
 use crate::failure::Failure;
+use crate::reading::{budget, pair};
 use cay_base::{
-    Failed, MemSink, MemSource, ReadError, Sink, Source, StdSink, StdSource, WholeSink,
-    WholeSource, read_all,
+    MemSink, MemSource, ReadError, Sink, StdSink, StdSource, WholeSink, WholeSource, read_all,
 };
+use std::alloc::{AllocError, Global};
 use std::io;
 use std::io::{Read, Write};
 
-/// What every source holds at first.
-const TEXT: &[u8] = b"lines";
-
-fn print_read(rt: &HostRuntime, read: Result<Vec<u8>, ReadError>) -> Result<(), Failure> {
+/// How many bytes were read, or why none.
+fn put_read(out: &mut String, read: Result<Vec<u8>, ReadError>) -> Result<(), Failure> {
     match read {
-        Ok(bytes) => Ok(println!(rt; "{} bytes", bytes.len())?),
+        Ok(bytes) => Ok(write!(out, " {} bytes", bytes.len())?),
         Err(ReadError::Memory) => Err(Failure::Memory),
-        Err(error) => Ok(println!(rt; "{error}")?),
+        Err(error) => Ok(write!(out, " {error}")?),
     }
 }
 
-/// Reads at most so many bytes a call, where the calls of these numbers fail.
-fn show_read(rt: &HostRuntime, most: usize, limit: u64, fails: &[u32]) -> Result<(), Failure>
-    requires { 1 ≤ most }
-{
-    let fails = Vec::from_slice(rt.alloc(), fails)?;
-    let bytes = Vec::from_slice(rt.alloc(), TEXT)?;
-    let mut source = MemSource::new(bytes, most, fails);
-    print!(rt; "read_all 5 bytes, {most} a call, up to {limit}: ")?;
-    print_read(rt, read_all(rt.alloc(), &mut source, limit))
+/// The number of the one call that fails, or nothing.
+fn failing(alloc: Global, word: &str) -> Result<Vec<u32>, AllocError> {
+    let mut fails = Vec::new(alloc);
+    if let Ok(number) = word.parse::<u32>() {
+        fails.push(number)?;
+    }
+    Ok(fails)
 }
 
-fn show_whole_source(rt: &HostRuntime) -> Result<(), Failure> {
-    let mut source = WholeSource::new(Vec::from_slice(rt.alloc(), TEXT)?);
-    print!(rt; "read_all 5 bytes of a whole source: ")?;
-    print_read(rt, read_all(rt.alloc(), &mut source, 9))
+/// Reads text of which each call gives at most so many bytes, up to a limit, where one call may fail.
+pub fn show_source(alloc: Global, out: &mut String, words: &str) -> Result<(), Failure> {
+    let (most, rest) = pair(words, ' ')?;
+    let (limit, rest) = pair(rest, ' ')?;
+    let (fails, text) = pair(rest, ' ')?;
+    let (most, limit) = (budget(most)?, budget(limit)?);
+    if most == 0 {
+        return Err(Failure::Line);
+    }
+    let fails = failing(alloc, fails)?;
+    let bytes = Vec::from_slice(alloc, text.as_bytes())?;
+    let mut source = MemSource::new(bytes, most as usize, fails);
+    put_read(out, read_all(alloc, &mut source, limit))
 }
 
-fn show_reader<R: Read + Drop>(rt: &HostRuntime, reader: R) -> Result<(), Failure> {
+/// Reads the text from a source that never fails.
+pub fn show_whole_source(alloc: Global, out: &mut String, text: &str) -> Result<(), Failure> {
+    let mut source = WholeSource::new(Vec::from_slice(alloc, text.as_bytes())?);
+    put_read(out, read_all(alloc, &mut source, 9))
+}
+
+fn put_reader<R: Read + Drop>(alloc: Global, out: &mut String, reader: R) -> Result<(), Failure> {
     let mut source = StdSource::new(reader);
-    print!(rt; "read_all of a reader: ")?;
-    print_read(rt, read_all(rt.alloc(), &mut source, 9))
+    put_read(out, read_all(alloc, &mut source, 9))
+}
+
+/// Reads the text from a reader, and where there is none from one that fails.
+pub fn show_reader(alloc: Global, out: &mut String, text: &str) -> Result<(), Failure> {
+    if text == "-" {
+        return put_reader(alloc, out, Broken);
+    }
+    put_reader(alloc, out, text.as_bytes())
 }
 
 /// A stream on which nothing can be read or written.
@@ -63,61 +80,42 @@ impl Write for Broken {
     }
 }
 
-/// Sources that end, that are too long, and that fail.
-pub fn show_sources(rt: &HostRuntime) -> Result<(), Failure> {
-    show_read(rt, 1, 5, &[])?;
-    show_read(rt, 2, 9, &[])?;
-    show_read(rt, 9, 4, &[])?;
-    show_read(rt, 9, 0, &[])?;
-    show_read(rt, 2, 9, &[1])?;
-    show_whole_source(rt)?;
-    show_reader(rt, TEXT)?;
-    show_reader(rt, Broken)
-}
-
-fn put<K: Sink>(rt: &HostRuntime, sink: &mut K, piece: &str) -> io::Result<()> {
-    match sink.put(piece.as_bytes()) {
-        Ok(()) => print!(rt; " \"{piece}\""),
-        Err(Failed) => print!(rt; " \"{piece}\" failed"),
+/// Puts the pieces between commas, and writes of each whether it was put.
+fn put_pieces<K: Sink>(out: &mut String, sink: &mut K, pieces: &str) -> Result<(), Failure> {
+    for piece in pieces.split(',') {
+        match sink.put(piece.as_bytes()) {
+            Ok(()) => out.push_str(" put")?,
+            Err(_) => out.push_str(" failed")?,
+        }
     }
+    Ok(())
 }
 
-fn put_pieces<K: Sink>(rt: &HostRuntime, sink: &mut K) -> io::Result<()> {
-    print!(rt; "put")?;
-    put(rt, sink, "ab")?;
-    put(rt, sink, "cdef")?;
-    put(rt, sink, "g")?;
-    put(rt, sink, "h")
-}
-
-fn print_held(rt: &HostRuntime, bytes: &[u8]) -> io::Result<()> {
-    print!(rt; ": holds ")?;
+fn put_held(out: &mut String, bytes: &[u8]) -> Result<(), Failure> {
+    out.push_str(", holds ")?;
     for byte in bytes {
-        print!(rt; "{}", *byte as char)?;
+        out.push(*byte as char)?;
     }
-    println!(rt; "")
+    Ok(())
 }
 
-fn show_whole_sink(rt: &HostRuntime) -> Result<(), Failure> {
-    let mut sink = WholeSink::with_room(rt.alloc(), 5)?;
-    put_pieces(rt, &mut sink)?;
-    Ok(print_held(rt, sink.bytes())?)
+/// Puts pieces into a sink with room for five bytes, of which one call may fail.
+pub fn show_sink(alloc: Global, out: &mut String, words: &str) -> Result<(), Failure> {
+    let (fails, pieces) = pair(words, ' ')?;
+    let fails = failing(alloc, fails)?;
+    let mut sink = MemSink::with_room(alloc, 5, fails)?;
+    put_pieces(out, &mut sink, pieces)?;
+    put_held(out, sink.bytes())
 }
 
-fn show_planned_sink(rt: &HostRuntime) -> Result<(), Failure> {
-    let fails = Vec::from_slice(rt.alloc(), &[1])?;
-    let mut sink = MemSink::with_room(rt.alloc(), 5, fails)?;
-    put_pieces(rt, &mut sink)?;
-    Ok(print_held(rt, sink.bytes())?)
+/// Puts pieces into a sink with room for five bytes.
+pub fn show_whole_sink(alloc: Global, out: &mut String, pieces: &str) -> Result<(), Failure> {
+    let mut sink = WholeSink::with_room(alloc, 5)?;
+    put_pieces(out, &mut sink, pieces)?;
+    put_held(out, sink.bytes())
 }
 
-/// Sinks of room for five bytes, of which one fails at its second call, and a stream that takes nothing.
-pub fn show_sinks(rt: &HostRuntime) -> Result<(), Failure> {
-    show_whole_sink(rt)?;
-    show_planned_sink(rt)?;
-    let mut sink = StdSink::new(Broken);
-    print!(rt; "put into a full stream:")?;
-    put(rt, &mut sink, "a")?;
-    put(rt, &mut sink, "")?;
-    Ok(println!(rt; "")?)
+/// Puts pieces into a stream that takes nothing.
+pub fn show_full_stream(out: &mut String, pieces: &str) -> Result<(), Failure> {
+    put_pieces(out, &mut StdSink::new(Broken), pieces)
 }

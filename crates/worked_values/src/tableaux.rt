@@ -1,75 +1,100 @@
-//! Tableaux.
+//! Sorted brackets, tableaux, and stores of row lists.
 ghost use Rattle.coordinate_model.specs.Sequences.{IsRank};
 
-use crate::brackets::brackets;
 use crate::failure::Failure;
-use crate::printing::print_rows;
-use bracket_terms::Bracket;
-use std::io;
-use tableau_order::{compare, merge, violation};
+use crate::printing::put_rows;
+use crate::reading::{pair, points, tableau};
+use bracket_terms::{Bracket, Signed, sort};
+use bumpalo::Bump;
+use std::alloc::Global;
+use std::cmp::Ordering;
+use tableau_order::{compare, is_standard, merge, violation};
+use term_arena::{Store, StoreError};
 
-fn print_violation<const D: usize>(rt: &HostRuntime, rows: &[Bracket<D>]) -> io::Result<()>
+/// The points in ascending order, with their sign.
+pub fn show_sort<const D: usize>(out: &mut String, word: &str) -> Result<(), Failure>
     requires { IsRank D }
 {
-    print!(rt; "violation ")?;
-    print_rows(rt, rows)?;
-    match violation(rows) {
-        Some(place) => println!(rt; ": row {} column {}", place.row, place.column),
-        None => println!(rt; ": none"),
+    let (sign, row) = match sort(points::<D>(word)?) {
+        Signed::Zero => return Ok(out.push_str(" zero")?),
+        Signed::Plus(row) => (" +", row),
+        Signed::Minus(row) => (" -", row),
+    };
+    out.push_str(sign)?;
+    Ok(put_rows(out, &[row])?)
+}
+
+/// The first violation of a tableau.
+pub fn show_violation<const D: usize>(
+    alloc: Global,
+    out: &mut String,
+    word: &str,
+) -> Result<(), Failure>
+    requires { IsRank D }
+{
+    let tableau = tableau::<D>(alloc, word)?;
+    if is_standard(tableau.rows()) {
+        out.push_str(" standard,")?;
+    }
+    match violation(tableau.rows()) {
+        Some(place) => Ok(write!(out, " row {} column {}", place.row, place.column)?),
+        None => Ok(out.push_str(" none")?),
     }
 }
 
-fn show_violation<const D: usize>(rt: &HostRuntime, rows: &[[u8; D]]) -> Result<(), Failure>
+/// The product of two tableaux, and how the first compares with it.
+pub fn show_merge<const D: usize>(
+    alloc: Global,
+    out: &mut String,
+    words: &str,
+) -> Result<(), Failure>
     requires { IsRank D }
 {
-    let rows = brackets(rt.alloc(), rows)?;
-    Ok(print_violation(rt, &rows)?)
+    let (a, b) = pair(words, ' ')?;
+    let a = tableau::<D>(alloc, a)?;
+    let b = tableau::<D>(alloc, b)?;
+    let merged = merge(alloc, a.rows(), b.rows())?;
+    out.push(' ')?;
+    put_rows(out, merged.rows())?;
+    Ok(out.push_str(match compare(a.rows(), merged.rows()) {
+        Ordering::Less => ", less",
+        Ordering::Equal => ", equal",
+        Ordering::Greater => ", greater",
+    })?)
 }
 
-/// First violations.
-pub fn show_violations(rt: &HostRuntime) -> Result<(), Failure> {
-    show_violation(rt, &[[1, 4, 5]])?;
-    show_violation(rt, &[[1, 2, 3], [1, 4, 5], [2, 4, 6], [3, 5, 6]])?;
-    show_violation(rt, &[[1, 4, 5], [2, 3, 6]])?;
-    show_violation(rt, &[[1, 2, 6], [1, 3, 4], [2, 3, 5]])?;
-    show_violation(rt, &[[1, 2, 3], [1, 4, 6], [2, 3, 5]])?;
-    show_violation(rt, &[[1, 4], [2, 3]])?;
-    show_violation(rt, &[[1, 3, 5, 8], [2, 4, 6, 7]])
-}
-
-fn print_merge<const D: usize>(
-    rt: &HostRuntime,
-    a: &[Bracket<D>],
-    b: &[Bracket<D>],
-    merged: &[Bracket<D>],
-) -> io::Result<()>
+/// Whether the store has the rows, and at which number they are placed.
+fn place<'a, const D: usize>(
+    out: &mut String,
+    store: &mut Store<'a, D>,
+    rows: &[Bracket<D>],
+) -> Result<(), Failure>
     requires { IsRank D }
 {
-    print!(rt; "merge ")?;
-    print_rows(rt, a)?;
-    print!(rt; " and ")?;
-    print_rows(rt, b)?;
-    print!(rt; ": ")?;
-    print_rows(rt, merged)?;
-    println!(rt; ", {:?}", compare(a, merged))
+    out.push_str(match store.find(rows) {
+        Some(_) => " found",
+        None => " new",
+    })?;
+    match store.intern(rows) {
+        Ok(id) => Ok(write!(out, " {}", id.0)?),
+        Err(StoreError::Full) => Ok(out.push_str(" full")?),
+        Err(StoreError::Memory) => Err(Failure::Memory),
+    }
 }
 
-/// The product of all rows of both, and how the first compare with it.
-fn show_merge<const D: usize>(rt: &HostRuntime, a: &[[u8; D]], b: &[[u8; D]]) -> Result<(), Failure>
+/// Places row lists one after another, and says how many there are.
+pub fn show_store<const D: usize>(
+    alloc: Global,
+    out: &mut String,
+    words: &str,
+) -> Result<(), Failure>
     requires { IsRank D }
 {
-    let left = brackets(rt.alloc(), a)?;
-    let right = brackets(rt.alloc(), b)?;
-    let merged = merge(rt.alloc(), &left, &right)?;
-    Ok(print_merge(rt, &left, &right, merged.rows())?)
-}
-
-/// Merged tableaux.
-pub fn show_merges(rt: &HostRuntime) -> Result<(), Failure> {
-    show_merge(rt, &[[1, 2, 3]], &[])?;
-    show_merge(rt, &[[1, 2, 3]], &[[1, 2, 4]])?;
-    show_merge(rt, &[[1, 2, 4]], &[[1, 2, 3]])?;
-    show_merge(rt, &[[2, 3, 6], [1, 2, 3]], &[[1, 4, 5], [1, 2, 3]])?;
-    show_merge(rt, &[[2, 3]], &[[1, 4]])?;
-    show_merge(rt, &[[2, 3, 5, 6]], &[[1, 4, 5, 6]])
+    let arena = Bump::new(alloc);
+    let mut store = Store::<D>::new(alloc, &arena);
+    for word in words.split_whitespace() {
+        let tableau = tableau::<D>(alloc, word)?;
+        place(out, &mut store, tableau.rows())?;
+    }
+    Ok(write!(out, ", {} row lists", store.count())?)
 }

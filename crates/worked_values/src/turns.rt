@@ -1,28 +1,22 @@
 //! Syzygies, and turns of straightening.
+ghost use Rattle.std.specs.Prelude.{◌≤◌};
 ghost use Rattle.coordinate_model.specs.Sequences.{IsRank};
 
-use crate::brackets::brackets;
 use crate::failure::Failure;
-use crate::polynomials::{MOST, Term, plain, poly};
-use crate::printing::{print_poly, print_row, print_rows, print_syzygy, print_use};
-use bracket_terms::{Bracket, LogUse};
-use std::io;
-use straightening::{Partial, StopError, Straight, straighten};
-use syzygies::{PairTerm, Parts, at_place, syzygy};
-use tableau_order::{Tableau, violation};
-
-fn print_pairs<const D: usize>(rt: &HostRuntime, terms: &[PairTerm<D>]) -> io::Result<()> {
-    for term in terms {
-        print!(rt; " {:+}", term.sign_count)?;
-        print_row(rt, &term.low)?;
-        print_row(rt, &term.high)?;
-    }
-    println!(rt; "")
-}
+use crate::printing::{put_poly, put_rows, put_syzygy, put_term, put_uses};
+use crate::reading::{budget, pair, poly, tableau};
+use bracket_poly::ArenaPoly;
+use bracket_terms::{Bracket, Params};
+use bumpalo::Bump;
+use std::alloc::Global;
+use straightening::{Partial, Queue, StopError, Straight, straighten, straighten_in};
+use syzygies::{Parts, add_multiple, at_place, syzygy};
+use tableau_order::{Tableau, is_standard, violation};
 
 /// The terms of the syzygy.
-fn show_syzygy<const D: usize>(
-    rt: &HostRuntime,
+fn put_terms<const D: usize>(
+    alloc: Global,
+    out: &mut String,
     alpha: &[u8],
     beta: &[u8],
     gamma: &[u8],
@@ -30,151 +24,205 @@ fn show_syzygy<const D: usize>(
     requires { IsRank D }
 {
     if beta.len() != D + 1 || alpha.len() >= D || gamma.len() != D - 1 - alpha.len() {
-        return Err(Failure::Numbers);
+        return Err(Failure::Line);
     }
-    print!(rt; "syzygy")?;
-    print_syzygy(rt, alpha, beta, gamma)?;
-    print!(rt; ":")?;
-    let terms = syzygy::<D>(rt.alloc(), alpha, beta, gamma)?;
-    Ok(print_pairs(rt, &terms)?)
+    let terms = syzygy::<D>(alloc, alpha, beta, gamma)?;
+    for term in &terms {
+        put_term(
+            out,
+            i128::from(term.sign_count),
+            &Params::one(),
+            &[term.low, term.high],
+        )?;
+    }
+    Ok(())
 }
 
-/// The syzygies that collect equal products, that are zero, and those of each rank.
-pub fn show_syzygies(rt: &HostRuntime) -> Result<(), Failure> {
-    show_syzygy::<3>(rt, &[1], &[2, 3, 4, 5], &[1])?;
-    show_syzygy::<3>(rt, &[1], &[3, 2, 4, 5], &[4])?;
-    show_syzygy::<3>(rt, &[1], &[2, 2, 3, 4], &[5])?;
-    show_syzygy::<3>(rt, &[3], &[2, 1, 4, 3], &[2])?;
-    show_syzygy::<2>(rt, &[], &[1, 2, 3], &[4])?;
-    show_syzygy::<4>(rt, &[1], &[2, 4, 5, 6, 7], &[2, 3])
-}
-
-/// The syzygy with these parts.
-fn show_parts<const D: usize>(rt: &HostRuntime, parts: &Parts) -> Result<(), Failure>
+/// The terms of the syzygy of three lists of points.
+pub fn show_syzygy<const D: usize>(
+    alloc: Global,
+    out: &mut String,
+    words: &str,
+) -> Result<(), Failure>
     requires { IsRank D }
 {
-    let (alpha, gamma) = (parts.alpha_len as usize, parts.gamma_len as usize);
-    if alpha > 4 || gamma > 4 {
-        return Err(Failure::Numbers);
-    }
-    show_syzygy::<D>(
-        rt,
-        &parts.alpha[..alpha],
-        &parts.beta[..D + 1],
-        &parts.gamma[..gamma],
+    let (alpha, rest) = pair(words, '|')?;
+    let (beta, gamma) = pair(rest, '|')?;
+    put_terms::<D>(
+        alloc,
+        out,
+        alpha.as_bytes(),
+        beta.as_bytes(),
+        gamma.as_bytes(),
     )
 }
 
-/// The syzygy at the first violation of the product.
-fn show_place<const D: usize>(rt: &HostRuntime, rows: &[[u8; D]]) -> Result<(), Failure>
+/// The syzygy at the first violation of a tableau.
+pub fn show_place<const D: usize>(
+    alloc: Global,
+    out: &mut String,
+    word: &str,
+) -> Result<(), Failure>
     requires { IsRank D }
 {
-    let brackets = brackets(rt.alloc(), rows)?;
-    let tableau = Tableau::from_rows(rt.alloc(), &brackets)?;
-    let rows = tableau.rows();
-    let Some(place) = violation(rows) else {
-        return Err(Failure::Numbers);
+    let tableau = tableau::<D>(alloc, word)?;
+    let Some(place) = violation(tableau.rows()) else {
+        return Err(Failure::Line);
     };
-    let parts = at_place(rows, place);
-    print!(rt; "at_place {:+} ", parts.sign)?;
-    print_rows(rt, rows)?;
-    print!(rt; ", ")?;
-    show_parts::<D>(rt, &parts)
+    put_parts::<D>(alloc, out, &at_place(tableau.rows(), place))
 }
 
-/// The syzygies that rewrite products.
-pub fn show_places(rt: &HostRuntime) -> Result<(), Failure> {
-    show_place(rt, &[[1, 2, 6], [3, 4, 5]])?;
-    show_place(rt, &[[1, 3, 6], [2, 4, 5]])?;
-    show_place(rt, &[[1, 4, 5], [2, 3, 6]])?;
-    show_place(rt, &[[1, 5, 6], [2, 3, 4]])?;
-    show_place(rt, &[[1, 2, 5], [1, 3, 4]])?;
-    show_place(rt, &[[1, 4], [2, 3]])?;
-    show_place(rt, &[[1, 3, 5, 8], [2, 4, 6, 7]])
-}
-
-fn print_uses<const D: usize>(rt: &HostRuntime, uses: &[LogUse<D>], turns: u64) -> io::Result<()> {
-    for log_use in uses {
-        print_use(rt, log_use)?;
-    }
-    println!(rt; ", turns {turns}")
-}
-
-fn print_end<const D: usize>(rt: &HostRuntime, end: &Straight<D>) -> io::Result<()>
+/// The sign, the points and the terms of the syzygy with these parts.
+fn put_parts<const D: usize>(alloc: Global, out: &mut String, parts: &Parts) -> Result<(), Failure>
     requires { IsRank D }
 {
-    print_poly(rt, &end.normal)?;
-    print_uses(rt, end.uses.items(), end.turns)
+    let (a, c) = (parts.alpha_len as usize, parts.gamma_len as usize);
+    if a > 4 || c > 4 {
+        return Err(Failure::Line);
+    }
+    let (alpha, beta, gamma) = (&parts.alpha[..a], &parts.beta[..D + 1], &parts.gamma[..c]);
+    write!(out, " {:+}", parts.sign)?;
+    put_syzygy(out, alpha, beta, gamma)?;
+    out.push(':')?;
+    put_terms::<D>(alloc, out, alpha, beta, gamma)
 }
 
-fn print_part<const D: usize>(
-    rt: &HostRuntime,
+/// The multiples of the uses that straighten the first polynomial, added to the second one after another.
+pub fn show_multiples<const D: usize>(
+    alloc: Global,
+    out: &mut String,
+    words: &str,
+) -> Result<(), Failure>
+    requires { IsRank D }
+{
+    let (first, second) = pair(words, ';')?;
+    let Ok(straight) = straighten(alloc, poly::<D>(alloc, first)?, 1_000) else {
+        return Err(Failure::Line);
+    };
+    let mut sum = poly::<D>(alloc, second)?;
+    for log_use in straight.uses.items() {
+        add_multiple(alloc, &mut sum, log_use)?;
+    }
+    Ok(put_poly(out, &sum)?)
+}
+
+/// Puts a tableau that is not standard into the queue, and writes whether it is new.
+fn put<'a, const D: usize>(
+    out: &mut String,
+    queue: &mut Queue<'a, D>,
+    tableau: &'a Tableau<D>,
+) -> Result<(), Failure>
+    requires { IsRank D }
+{
+    if is_standard(tableau.rows()) {
+        return Err(Failure::Line);
+    }
+    let is_new = queue.put(Params::one(), tableau.rows())?;
+    Ok(write!(out, " {is_new}")?)
+}
+
+/// Writes the greatest tableau of the queue, takes this one out, and writes whether it was there.
+fn take_out<'a, const D: usize>(
+    out: &mut String,
+    queue: &mut Queue<'a, D>,
+    rows: &'a [Bracket<D>],
+) -> Result<(), Failure>
+    requires { IsRank D }
+{
+    out.push(' ')?;
+    match queue.greatest() {
+        Some((_, greatest)) => put_rows(out, greatest)?,
+        None => out.push_str("none")?,
+    }
+    Ok(write!(out, " {}", queue.remove(&Params::one(), rows))?)
+}
+
+/// Puts two tableaux into a queue, the first one twice, and takes the first, the second and the first out again.
+pub fn show_queue<const D: usize>(
+    alloc: Global,
+    out: &mut String,
+    words: &str,
+) -> Result<(), Failure>
+    requires { IsRank D }
+{
+    let (first, second) = pair(words, ' ')?;
+    let first = tableau::<D>(alloc, first)?;
+    let second = tableau::<D>(alloc, second)?;
+    let mut queue = Queue::new(alloc);
+    put(out, &mut queue, &first)?;
+    put(out, &mut queue, &second)?;
+    put(out, &mut queue, &first)?;
+    take_out(out, &mut queue, first.rows())?;
+    take_out(out, &mut queue, second.rows())?;
+    take_out(out, &mut queue, first.rows())
+}
+
+/// The uses up to a stop, and why it stopped.
+pub fn put_stop<const D: usize>(
+    out: &mut String,
     limit: &str,
     part: &Partial<D>,
-) -> Result<(), Failure> {
-    print!(rt; " {limit}")?;
-    Ok(print_uses(rt, part.uses.items(), part.turns)?)
-}
-
-fn print_straight<const D: usize>(
-    rt: &HostRuntime,
-    answer: &Result<Straight<D>, StopError<D>>,
 ) -> Result<(), Failure>
     requires { IsRank D }
 {
-    match answer {
-        Ok(end) => Ok(print_end(rt, end)?),
-        Err(StopError::Turns(part)) => print_part(rt, "turns", part),
-        Err(StopError::Coefficient(part)) => print_part(rt, "coefficient", part),
-        Err(StopError::Keys(part)) => print_part(rt, "keys", part),
-        Err(StopError::Memory) => Err(Failure::Memory),
+    write!(out, " {limit}, turns {}", part.turns)?;
+    Ok(put_uses(out, part.uses.items())?)
+}
+
+/// Why straightening stopped.
+fn put_error<const D: usize>(out: &mut String, error: &StopError<D>) -> Result<(), Failure>
+    requires { IsRank D }
+{
+    match error {
+        StopError::Turns(part) => put_stop(out, "turns", part),
+        StopError::Coefficient(part) => put_stop(out, "coefficient", part),
+        StopError::Keys(part) => put_stop(out, "keys", part),
+        StopError::Memory => Err(Failure::Memory),
     }
 }
 
-/// What straightening makes of the sum of the terms.
-fn show_straighten<const D: usize>(
-    rt: &HostRuntime,
-    terms: &[Term<D>],
-    budget: u64,
+/// The normal polynomial, and the turns that led to it.
+fn put_end<const D: usize>(out: &mut String, end: &Straight<D>) -> Result<(), Failure>
+    requires { IsRank D }
+{
+    put_poly(out, &end.normal)?;
+    write!(out, ", turns {}", end.turns)?;
+    Ok(put_uses(out, end.uses.items())?)
+}
+
+/// What straightening makes of a polynomial within a budget.
+pub fn show_straighten<const D: usize>(
+    alloc: Global,
+    out: &mut String,
+    words: &str,
 ) -> Result<(), Failure>
     requires { IsRank D }
 {
-    let poly = poly(rt.alloc(), terms)?;
-    print!(rt; "straighten")?;
-    print_poly(rt, &poly)?;
-    print!(rt; " with budget {budget}:")?;
-    print_straight(rt, &straighten(rt.alloc(), poly, budget))
+    let (most, words) = pair(words, ' ')?;
+    let budget = budget(most)?;
+    match straighten(alloc, poly::<D>(alloc, words)?, budget) {
+        Ok(end) => put_end(out, &end),
+        Err(error) => put_error(out, &error),
+    }
 }
 
-/// The products of two brackets of the plane whose normal forms are known.
-pub fn show_normal_forms(rt: &HostRuntime) -> Result<(), Failure> {
-    show_straighten(rt, &[plain(1, &[[1, 2, 6], [3, 4, 5]])], 1000)?;
-    show_straighten(rt, &[plain(1, &[[1, 3, 6], [2, 4, 5]])], 1000)?;
-    show_straighten(rt, &[plain(1, &[[1, 4, 5], [2, 3, 6]])], 1)?;
-    show_straighten(rt, &[plain(1, &[[1, 5, 6], [2, 3, 4]])], 1000)?;
-    show_straighten(rt, &[plain(1, &[[1, 2, 5], [1, 3, 4]])], 1000)
-}
-
-/// Products that are rewritten, and the limits, in one rank: with `standard` in the sum, a coefficient is too large.
-fn show_limits<const D: usize>(
-    rt: &HostRuntime,
-    product: [[u8; D]; 2],
-    standard: [[u8; D]; 2],
+/// The same over an arena, and the number of row lists of its store.
+pub fn show_straighten_in<const D: usize>(
+    alloc: Global,
+    out: &mut String,
+    words: &str,
 ) -> Result<(), Failure>
     requires { IsRank D }
 {
-    show_straighten(rt, &[plain(1, &product)], 0)?;
-    show_straighten(rt, &[plain(MOST, &product)], 1)?;
-    show_straighten(rt, &[plain(MOST, &product), plain(1, &standard)], 1)
-}
-
-/// The same in each rank.
-pub fn show_stops(rt: &HostRuntime) -> Result<(), Failure> {
-    show_limits(rt, [[1, 4], [2, 3]], [[1, 3], [2, 4]])?;
-    show_limits(rt, [[1, 4, 5], [2, 3, 6]], [[1, 2, 4], [3, 5, 6]])?;
-    show_limits(
-        rt,
-        [[1, 3, 5, 8], [2, 4, 6, 7]],
-        [[1, 3, 5, 7], [2, 4, 6, 8]],
-    )
+    let (most, words) = pair(words, ' ')?;
+    let budget = budget(most)?;
+    let arena = Bump::new(alloc);
+    let loaded = ArenaPoly::load(&poly::<D>(alloc, words)?, &arena)?;
+    match straighten_in(alloc, loaded, budget) {
+        Ok((end, store)) => {
+            write!(out, " {} row lists,", store.count())?;
+            put_end(out, &end)
+        }
+        Err(error) => put_error(out, &error),
+    }
 }

@@ -1,21 +1,24 @@
-//! Joins, meets and points by parameters, of free points that have a weight.
-ghost use Rattle.std.specs.Prelude.{◌≡◌, ◌+◌, ◌<◌, ◌≤◌, ◌≢◌, pos, T, IfOk, [], ◌∷◌};
+//! Joins, meets, points by parameters, brackets and six-point polynomials of free points that have a weight.
+ghost use Rattle.std.specs.Prelude.{◌≡◌, ◌+◌, ◌<◌, ◌≤◌, ◌≢◌, pos, T, IfOk, [], ◌∷◌, length};
+ghost use Rattle.std.specs.List.{AllByRecursion};
 ghost use Rattle.coordinate_model.specs.Sequences.{IsRank};
 ghost use Rattle.bracket_terms.specs.Joins.{points_of};
 ghost use Rattle.bracket_poly.specs.Tracked.{fits};
-ghost use Rattle.worked_values.specs.Objects.{AreBelow, IsNumber, IsScaled};
+ghost use Rattle.conic_points.specs.Points.{IsPoint, IsSmall};
+ghost use Rattle.worked_values.specs.Objects.{IsNumber, IsScaled};
 
 use crate::failure::Failure;
-use crate::polynomials::MOST;
-use crate::printing::print_value;
-use bracket_poly::{Key, Poly, PolyError, Value};
+use crate::printing::{put_poly, put_value};
+use crate::reading::{coefficient, number, pair, points};
+use bracket_poly::{Key, Poly, Value};
 use bracket_terms::{Extensor, Items, Params};
+use conic_points::{bracket, conic};
 use shuffle_meet::{join, meet, on};
 use std::alloc::Global;
 use tableau_order::Tableau;
 
 /// The whole number as a polynomial.
-fn number<const D: usize>(alloc: Global, c: i128) -> Result<Poly<D>, Failure>
+fn constant<const D: usize>(alloc: Global, c: i128) -> Result<Poly<D>, Failure>
     requires rank { IsRank D }
     requires not_zero { c ≢ pos 0 }
     requires small { T (fits c) }
@@ -40,14 +43,17 @@ fn of_point(i: u8) -> Extensor
 }
 
 /// A free point with this weight.
-pub fn point<const D: usize>(alloc: Global, i: u8, c: i128) -> Result<Value<D>, Failure>
+fn point<const D: usize>(alloc: Global, i: u8, c: i128) -> Result<Value<D>, Failure>
     requires rank { IsRank D }
     requires not_zero { c ≢ pos 0 }
     requires small { T (fits c) }
-    ensures { IfOk result (IsScaled 1) }
+    ensures scaled { IfOk result IsScaled }
+    ensures of_step { IfOk result (λ value. value.step ≡ 1) }
+    ensures small { IfOk result (λ value. AllByRecursion IsSmall value.entries) }
+    ensures point { IfOk result IsPoint }
 {
     let extensor = of_point(i);
-    let number = number(alloc, c)?;
+    let number = constant(alloc, c)?;
     let mut entries = Vec::new(alloc);
     entries.push((extensor, number))?;
     Ok(Value {
@@ -56,211 +62,206 @@ pub fn point<const D: usize>(alloc: Global, i: u8, c: i128) -> Result<Value<D>, 
     })
 }
 
-/// The join of objects of these steps, which is no bracket.
-fn joined<const D: usize, const M: usize, const N: usize>(
-    alloc: Global,
-    a: &Value<D>,
-    b: &Value<D>,
-) -> Result<Value<D>, Failure>
+/// The join of an object and a free point, which is no bracket.
+fn extended<const D: usize>(alloc: Global, value: &Value<D>, i: u8) -> Result<Value<D>, Failure>
     requires rank { IsRank D }
-    requires steps { AreBelow M N D }
-    requires few { M + N < D }
-    requires first { IsScaled M a.now }
-    requires second { IsScaled N b.now }
-    ensures { IfOk result (IsScaled (M + N)) }
+    requires scaled { IsScaled value.now }
+    ensures { IfOk result IsScaled }
+{
+    if value.step as usize + 1 >= D {
+        return Err(Failure::Line);
+    }
+    let last = point::<D>(alloc, i, 1)?;
+    joined(alloc, value, &last)
+}
+
+/// The join of two objects, which is no bracket.
+fn joined<const D: usize>(alloc: Global, a: &Value<D>, b: &Value<D>) -> Result<Value<D>, Failure>
+    requires rank { IsRank D }
+    requires first { IsScaled a.now }
+    requires second { IsScaled b.now }
+    requires few { a.now.step + b.now.step < D }
+    ensures { IfOk result IsScaled }
 {
     Ok(join(alloc, a, b)?)
 }
 
-/// The line through two free points, of which the first has this weight.
-fn line<const D: usize>(alloc: Global, i: u8, j: u8, c: i128) -> Result<Value<D>, Failure>
+/// The join of the points of a word, of which the first has this weight.
+fn object<const D: usize>(alloc: Global, word: &str, c: i128) -> Result<Value<D>, Failure>
     requires rank { IsRank D }
-    requires room { 3 ≤ D }
     requires not_zero { c ≢ pos 0 }
     requires small { T (fits c) }
-    ensures { IfOk result (IsScaled 2) }
+    ensures { IfOk result IsScaled }
 {
-    let first = point::<D>(alloc, i, c)?;
-    let second = point::<D>(alloc, j, 1)?;
-    joined::<D, 1, 1>(alloc, &first, &second)
-}
-
-/// The plane through a line and a free point.
-fn plane(alloc: Global, line: &Value<4>, i: u8) -> Result<Value<4>, Failure>
-    requires { IsScaled 2 line.now }
-    ensures { IfOk result (IsScaled 3) }
-{
-    let last = point::<4>(alloc, i, 1)?;
-    joined::<4, 2, 1>(alloc, line, &last)
-}
-
-fn print_arguments<const D: usize>(
-    rt: &HostRuntime,
-    call: &str,
-    a: &Value<D>,
-    b: &Value<D>,
-) -> Result<(), Failure>
-    requires { IsRank D }
-{
-    print!(rt; "{call} in rank {D} of")?;
-    print_value(rt, a)?;
-    print!(rt; " and")?;
-    Ok(print_value(rt, b)?)
-}
-
-/// Ends the line with what was made.
-fn print_made<const D: usize>(
-    rt: &HostRuntime,
-    made: Result<Value<D>, PolyError>,
-) -> Result<(), Failure>
-    requires { IsRank D }
-{
-    print!(rt; ":")?;
-    let value = match made {
-        Ok(value) => value,
-        Err(error) => return Ok(println!(rt; " {error}")?),
+    let mut points = word.bytes();
+    let Some(first) = points.next() else {
+        return Err(Failure::Line);
     };
-    print_value(rt, &value)?;
-    Ok(println!(rt; ", step {}", value.step)?)
+    let mut object = point::<D>(alloc, first, c)?;
+    for i in points {
+        object = extended(alloc, &object, i)?;
+    }
+    Ok(object)
 }
 
-/// The join of objects of these steps.
-fn show_join<const D: usize, const M: usize, const N: usize>(
-    rt: &HostRuntime,
+/// Two objects with the weight that stands behind them.
+fn objects<const D: usize>(alloc: Global, words: &str) -> Result<(Value<D>, Value<D>), Failure>
+    requires { IsRank D }
+    ensures first { IfOk result (λ pair. IsScaled pair.0) }
+    ensures second { IfOk result (λ pair. IsScaled pair.1) }
+{
+    let (a, rest) = pair(words, ' ')?;
+    let (b, weight) = pair(rest, ' ')?;
+    let c = coefficient(weight)?;
+    Ok((object(alloc, a, c)?, object(alloc, b, c)?))
+}
+
+/// Writes the join of two objects.
+fn put_join<const D: usize>(
+    alloc: Global,
+    out: &mut String,
     a: &Value<D>,
     b: &Value<D>,
 ) -> Result<(), Failure>
     requires rank { IsRank D }
-    requires steps { AreBelow M N D }
-    requires enough { M + N ≤ D }
-    requires first { IsScaled M a.now }
-    requires second { IsScaled N b.now }
+    requires first { IsScaled a.now }
+    requires second { IsScaled b.now }
+    requires few { a.now.step + b.now.step ≤ D }
 {
-    print_arguments(rt, "join", a, b)?;
-    print_made(rt, join(rt.alloc(), a, b))
+    let joined = join(alloc, a, b)?;
+    Ok(put_value(out, &joined)?)
 }
 
-/// The meet of objects of these steps.
-fn show_meet<const D: usize, const M: usize, const N: usize>(
-    rt: &HostRuntime,
+/// The join of two objects.
+pub fn show_join<const D: usize>(
+    alloc: Global,
+    out: &mut String,
+    words: &str,
+) -> Result<(), Failure>
+    requires { IsRank D }
+{
+    let (a, b) = objects::<D>(alloc, words)?;
+    if a.step as usize + b.step as usize > D {
+        return Err(Failure::Line);
+    }
+    put_join(alloc, out, &a, &b)
+}
+
+/// Writes the meet of two objects.
+fn put_meet<const D: usize>(
+    alloc: Global,
+    out: &mut String,
     a: &Value<D>,
     b: &Value<D>,
 ) -> Result<(), Failure>
     requires rank { IsRank D }
-    requires steps { AreBelow M N D }
-    requires enough { D ≤ M + N }
-    requires first { IsScaled M a.now }
-    requires second { IsScaled N b.now }
+    requires first { IsScaled a.now }
+    requires second { IsScaled b.now }
+    requires many { D ≤ a.now.step + b.now.step }
 {
-    print_arguments(rt, "meet", a, b)?;
-    print_made(rt, meet(rt.alloc(), a, b))
+    let met = meet(alloc, a, b)?;
+    Ok(put_value(out, &met)?)
 }
 
-/// The join of two free points with this weight.
-fn show_points<const D: usize>(rt: &HostRuntime, i: u8, j: u8, c: i128) -> Result<(), Failure>
-    requires rank { IsRank D }
-    requires not_zero { c ≢ pos 0 }
-    requires small { T (fits c) }
+/// The meet of two objects.
+pub fn show_meet<const D: usize>(
+    alloc: Global,
+    out: &mut String,
+    words: &str,
+) -> Result<(), Failure>
+    requires { IsRank D }
 {
-    let first = point::<D>(rt.alloc(), i, c)?;
-    let second = point::<D>(rt.alloc(), j, c)?;
-    show_join::<D, 1, 1>(rt, &first, &second)
+    let (a, b) = objects::<D>(alloc, words)?;
+    if D > a.step as usize + b.step as usize {
+        return Err(Failure::Line);
+    }
+    put_meet(alloc, out, &a, &b)
 }
 
-/// The join of a line and a point of the plane.
-fn show_line_and_point(rt: &HostRuntime, i: u8) -> Result<(), Failure> {
-    let line = line::<3>(rt.alloc(), 2, 1, 1)?;
-    let point = point::<3>(rt.alloc(), i, 1)?;
-    show_join::<3, 2, 1>(rt, &line, &point)
-}
-
-/// The join of two lines of space.
-fn show_space_lines(rt: &HostRuntime) -> Result<(), Failure> {
-    let first = line::<4>(rt.alloc(), 1, 4, 1)?;
-    let second = line::<4>(rt.alloc(), 2, 3, 1)?;
-    show_join::<4, 2, 2>(rt, &first, &second)
-}
-
-/// Joins in each rank.
-pub fn show_joins(rt: &HostRuntime) -> Result<(), Failure> {
-    show_points::<2>(rt, 2, 1, 1)?;
-    show_points::<2>(rt, 1, 2, MOST)?;
-    show_points::<3>(rt, 2, 1, 1)?;
-    show_points::<3>(rt, 1, 2, MOST)?;
-    show_points::<4>(rt, 2, 1, 1)?;
-    show_points::<4>(rt, 1, 2, MOST)?;
-    show_line_and_point(rt, 3)?;
-    show_line_and_point(rt, 2)?;
-    show_space_lines(rt)
-}
-
-/// The meet of two points of the line, with this weight.
-fn show_met_points(rt: &HostRuntime, c: i128) -> Result<(), Failure>
-    requires not_zero { c ≢ pos 0 }
-    requires small { T (fits c) }
-{
-    let first = point::<2>(rt.alloc(), 1, c)?;
-    let second = point::<2>(rt.alloc(), 2, c)?;
-    show_meet::<2, 1, 1>(rt, &first, &second)
-}
-
-/// The meet of two lines of the plane, with this weight.
-fn show_met_lines(rt: &HostRuntime, c: i128) -> Result<(), Failure>
-    requires not_zero { c ≢ pos 0 }
-    requires small { T (fits c) }
-{
-    let first = line::<3>(rt.alloc(), 1, 2, c)?;
-    let second = line::<3>(rt.alloc(), 3, 4, c)?;
-    show_meet::<3, 2, 2>(rt, &first, &second)
-}
-
-/// The meet of a plane and a line of space, with this weight.
-fn show_plane_and_line(rt: &HostRuntime, c: i128) -> Result<(), Failure>
-    requires not_zero { c ≢ pos 0 }
-    requires small { T (fits c) }
-{
-    let side = line::<4>(rt.alloc(), 1, 2, c)?;
-    let plane = plane(rt.alloc(), &side, 3)?;
-    let line = line::<4>(rt.alloc(), 4, 5, c)?;
-    show_meet::<4, 3, 2>(rt, &plane, &line)
-}
-
-/// Meets in each rank.
-pub fn show_meets(rt: &HostRuntime) -> Result<(), Failure> {
-    show_met_points(rt, 1)?;
-    show_met_points(rt, MOST)?;
-    show_met_lines(rt, 1)?;
-    show_met_lines(rt, MOST)?;
-    show_plane_and_line(rt, 1)?;
-    show_plane_and_line(rt, MOST)
-}
-
-/// The point by the parameters 0 and `t` on the line of two free points with this weight.
-fn show_on<const D: usize>(
-    rt: &HostRuntime,
-    points: (u8, u8),
+/// Writes the sum of the parameter 0 times a point, and of the parameter `t` times another.
+fn put_on<const D: usize>(
+    alloc: Global,
+    out: &mut String,
+    a: &Value<D>,
+    b: &Value<D>,
     t: u8,
-    c: i128,
 ) -> Result<(), Failure>
     requires rank { IsRank D }
-    requires few { t ≤ 1 }
-    requires not_zero { c ≢ pos 0 }
-    requires small { T (fits c) }
+    requires first { IsScaled a.now }
+    requires second { IsScaled b.now }
+    requires one { a.now.step ≡ 1 }
+    requires other { b.now.step ≡ 1 }
+    requires few { t < 64 }
 {
-    let first = point::<D>(rt.alloc(), points.0, c)?;
-    let second = point::<D>(rt.alloc(), points.1, c)?;
-    print_arguments(rt, "on", &first, &second)?;
-    print!(rt; " with t0 and t{t}")?;
-    print_made(rt, on(rt.alloc(), &first, &second, 0, t))
+    let sum = on(alloc, a, b, 0, t)?;
+    Ok(put_value(out, &sum)?)
 }
 
-/// Points by parameters in each rank.
-pub fn show_mixed(rt: &HostRuntime) -> Result<(), Failure> {
-    show_on::<2>(rt, (1, 2), 1, 1)?;
-    show_on::<2>(rt, (1, 1), 0, MOST)?;
-    show_on::<3>(rt, (1, 2), 1, 1)?;
-    show_on::<3>(rt, (1, 1), 0, 1)?;
-    show_on::<3>(rt, (1, 1), 0, MOST)?;
-    show_on::<4>(rt, (1, 2), 1, 1)?;
-    show_on::<4>(rt, (1, 1), 0, MOST)
+/// The point by the parameter 0 and another one on two points.
+pub fn show_on<const D: usize>(alloc: Global, out: &mut String, words: &str) -> Result<(), Failure>
+    requires { IsRank D }
+{
+    let (name, words) = pair(words, ' ')?;
+    let t = number(name)?;
+    let (a, b) = objects::<D>(alloc, words)?;
+    if t >= 64 || a.step != 1 || b.step != 1 {
+        return Err(Failure::Line);
+    }
+    put_on(alloc, out, &a, &b, t)
+}
+
+/// Writes the bracket of a row of points, in which two values stand in front.
+fn put_bracket<const D: usize>(
+    alloc: Global,
+    out: &mut String,
+    row: [u8; D],
+    a: &Value<D>,
+    b: &Value<D>,
+) -> Result<(), Failure>
+    requires rank { IsRank D }
+    requires first { IsPoint a.now }
+    requires second { IsPoint b.now }
+{
+    let made = bracket(alloc, row, 0, &[a, b])?;
+    Ok(put_poly(out, &made)?)
+}
+
+/// The bracket of a row of points, of which the two in front have a weight.
+pub fn show_bracket<const D: usize>(
+    alloc: Global,
+    out: &mut String,
+    words: &str,
+) -> Result<(), Failure>
+    requires { IsRank D }
+{
+    let (word, weight) = pair(words, ' ')?;
+    let row = points::<D>(word)?;
+    let c = coefficient(weight)?;
+    let a = point::<D>(alloc, row[0], c)?;
+    let b = point::<D>(alloc, row[1], c)?;
+    put_bracket(alloc, out, row, &a, &b)
+}
+
+/// Six free points of the plane.
+fn six_points(alloc: Global, word: &str, c: i128) -> Result<Vec<Value<3>>, Failure>
+    requires not_zero { c ≢ pos 0 }
+    requires small { T (fits c) }
+    ensures steps { IfOk result (λ six. AllByRecursion (λ value. value.step ≡ 1) six.items) }
+    ensures small { IfOk result (λ six. AllByRecursion (λ value. AllByRecursion IsSmall value.entries) six.items) }
+{
+    let mut six = Vec::new(alloc);
+    for i in word.bytes() {
+        six.push(point::<3>(alloc, i, c)?)?;
+    }
+    Ok(six)
+}
+
+/// The six-point polynomial of points with a weight.
+pub fn show_conic(alloc: Global, out: &mut String, words: &str) -> Result<(), Failure> {
+    let (word, weight) = pair(words, ' ')?;
+    let six = six_points(alloc, word, coefficient(weight)?)?;
+    if six.len() != 6 {
+        return Err(Failure::Line);
+    }
+    Ok(put_poly(out, &conic(alloc, &six)?)?)
 }

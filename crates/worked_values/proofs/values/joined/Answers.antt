@@ -6,18 +6,18 @@ pub join-requires : goal.join-requires
 join-requires g c =
     let a = c.args.a.now in
     let b = c.args.b.now in
-    let few : g.row.M + g.row.N < g.row.D = c.requires.few in (
+    let few : a.step + b.step < g.row.D = c.requires.few in (
       search rules,
       (
         c.requires.rank,
         (
-          are_joined g.row.M g.row.N a b c.requires.first c.requires.second c.requires.steps (omega arith),
-          numbers_fit g.row.M g.row.N a b c.requires.first c.requires.second,
+          are_joined a b c.requires.first c.requires.second (omega arith),
+          numbers_fit a b c.requires.first c.requires.second,
         ),
       ),
     )
 
 pub returns : goal.returns
 returns g c =
-    scaled_join g.row.M g.row.N c.args.a.now c.args.b.now c.requires.first c.requires.second c.in_ok-join.field-0
-    c.requires.few c.in_ok-join.ensures.step c.in_ok-join.ensures.sizes
+    scaled_join c.args.a.now c.args.b.now c.requires.first c.requires.second c.in_ok-join.field-0 c.requires.few
+    c.in_ok-join.ensures.step c.in_ok-join.ensures.sizes

@@ -1,6 +1,6 @@
 use Rattle.std.proofs.Common.{rules}
 use Rattle.worked_values.proofs.Scaled.{are_joined, numbers_fit}
-use Rattle.worked_values.proofs.values.show_join.Goals as goal
+use Rattle.worked_values.proofs.values.put_join.Goals as goal
 
 pub join-requires : goal.join-requires
 join-requires g c =
@@ -10,8 +10,8 @@ join-requires g c =
       (
         c.requires.rank,
         (
-          are_joined g.row.M g.row.N a b c.requires.first c.requires.second c.requires.steps c.requires.enough,
-          numbers_fit g.row.M g.row.N a b c.requires.first c.requires.second,
+          are_joined a b c.requires.first c.requires.second c.requires.few,
+          numbers_fit a b c.requires.first c.requires.second,
         ),
       ),
     )

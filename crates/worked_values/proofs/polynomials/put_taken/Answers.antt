@@ -1,6 +1,6 @@
 use Rattle.std.proofs.Common.{rules, lit≤, inr, refl}
 use Rattle.bracket_poly.proofs.Degrees.{exponents_fit}
-use Rattle.worked_values.proofs.polynomials.take.Goals as goal
+use Rattle.worked_values.proofs.polynomials.put_taken.Goals as goal
 
 pub mul_add-requires : goal.mul_add-requires
 mul_add-requires g c =

@@ -1,6 +1,6 @@
 use Rattle.std.proofs.Common.{rules}
 use Rattle.worked_values.proofs.Scaled.{are_met, numbers_fit}
-use Rattle.worked_values.proofs.values.show_meet.Goals as goal
+use Rattle.worked_values.proofs.values.put_meet.Goals as goal
 
 pub meet-requires : goal.meet-requires
 meet-requires g c =
@@ -10,8 +10,8 @@ meet-requires g c =
       (
         c.requires.rank,
         (
-          are_met g.row.M g.row.N a b c.requires.first c.requires.second c.requires.steps c.requires.enough,
-          numbers_fit g.row.M g.row.N a b c.requires.first c.requires.second,
+          are_met a b c.requires.first c.requires.second c.requires.many,
+          numbers_fit a b c.requires.first c.requires.second,
         ),
       ),
     )
